@@ -1,0 +1,5 @@
+pub mod Words
+pub mod Entries
+pub mod Images
+pub mod Held
+pub mod Answers
