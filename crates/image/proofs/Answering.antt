@@ -62,8 +62,8 @@ priced image last b x layout e orders quotes sale closing best =
     let orders-there : ordersFit (imageBook image) ≡ true = subst (λ y. ordersFit y ≡ true) e orders in
     let quotes-there : quotesFit (marketOf (imageBook image)) ≡ true = subst (λ y. quotesFit (marketOf y) ≡ true) e quotes in
     let yes-all : allBy (λ q. q .yes) (imageQuestions image last) ≡ true =
-      and-from (isImage image) _ layout
-      (and-from (ordersFit (imageBook image)) _ orders-there (and-from (quotesFit (marketOf (imageBook image))) _ quotes-there (and-from (leb last 4000000000) true (le-leb last 4000000000 sale) refl))) in
+    and-from (isImage image) _ layout
+    (and-from (ordersFit (imageBook image)) _ orders-there (and-from (quotesFit (marketOf (imageBook image))) _ quotes-there (and-from (leb last 4000000000) true (le-leb last 4000000000 sale) refl))) in
     subst (λ o. PricedBy o image last (Ok x)) (sym (all-yes (imageQuestions image last) yes-all)) (record {
       closing = subst (λ y. Closing false y last x) e (closing sound);
       best = subst (λ y. Best y x) e (best sound);

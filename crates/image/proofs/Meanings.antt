@@ -87,8 +87,8 @@ module _ (bs : List ℕ) (b s d o : ℕ) (sized : Sized bs b s d o) where
       cc
 
   pub image-there :
-    (bp bq sp sq dp dq op oq : List ℕ) → Cut 0 b bp bq → Cut b s sp sq → Cut (b + s) d dp dq → Cut (b + s + d) o op oq
-    → _≡_ {A = Book} (record { buys = levelsIn bp bq; sells = levelsIn sp sq; bids = quotesIn dp dq; offers = quotesIn op oq }) (imageBook bs)
+      (bp bq sp sq dp dq op oq : List ℕ) → Cut 0 b bp bq → Cut b s sp sq → Cut (b + s) d dp dq → Cut (b + s + d) o op oq
+      → _≡_ {A = Book} (record { buys = levelsIn bp bq; sells = levelsIn sp sq; bids = quotesIn dp dq; offers = quotesIn op oq }) (imageBook bs)
   image-there bp bq sp sq dp dq op oq buys-cut sells-cut bids-cut offers-cut =
       let buys = cut-orders 0 0 b (buysIn bs) bp bq buys-cut (omega arith) (sized .buys-few) refl (sized .buys-are) in
       let sells = cut-orders b (buysIn bs) s (sellsIn bs) sp sq sells-cut (omega arith) (sized .sells-few) (sized .buys-are) (sized .sells-are) in

@@ -41,7 +41,9 @@ impl<'a> Entries<'a> {
         ensures prices { λ r. ⌜ 4 * r ≤ length (now (now (self .entry) .prices)) ⌝ }
         ensures shares { λ r. ⌜ 4 * r ≤ length (now (now (self .entry) .shares)) ⌝ }
     {
-        (self.prices.len() / 4).min(self.shares.len() / 4).min(MOST_ENTRIES)
+        (self.prices.len() / 4)
+            .min(self.shares.len() / 4)
+            .min(MOST_ENTRIES)
     }
 
     // The entry at a place, counted from 0; none past the end.

@@ -39,7 +39,11 @@ impl Sizes {
         let sells = word_at(bytes, 1) as usize;
         let bids = word_at(bytes, 2) as usize;
         let offers = word_at(bytes, 3) as usize;
-        if buys > MOST_ENTRIES || sells > MOST_ENTRIES || bids > MOST_QUOTES || offers > MOST_QUOTES {
+        if buys > MOST_ENTRIES
+            || sells > MOST_ENTRIES
+            || bids > MOST_QUOTES
+            || offers > MOST_QUOTES
+        {
             return Err(Refusal::ImageLayout);
         }
         if bytes.len() != HEADER + 8 * (buys + sells + bids + offers) {

@@ -1,6 +1,6 @@
-pub mod words;
+pub mod answer;
 pub mod entries;
+pub mod export;
 pub mod image;
 pub mod views;
-pub mod answer;
-pub mod export;
+pub mod words;

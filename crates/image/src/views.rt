@@ -65,8 +65,12 @@ pub impl BookView for BookImage<'_> as ImageBookView {
     }
 
     fn next_price(&self, price: u32) -> u32 {
-        let orders = self.buys.next_above(price).min(self.sells.next_above(price));
-        let quotes = self.bids.next_above(price).min(self.offers.next_above(price));
+        let orders = self.buys
+            .next_above(price)
+            .min(self.sells.next_above(price));
+        let quotes = self.bids
+            .next_above(price)
+            .min(self.offers.next_above(price));
         orders.min(quotes)
     }
 

@@ -1,8 +1,8 @@
+pub mod best;
+pub mod fit;
 pub mod limits;
 pub mod price;
-pub mod side;
 pub mod quote;
-pub mod source;
-pub mod fit;
-pub mod best;
 pub mod refusal;
+pub mod side;
+pub mod source;

@@ -2,6 +2,7 @@
 
 // The lowest and the highest price, in points.
 pub const LOWEST_PRICE: u32 = 2;
+
 pub const HIGHEST_PRICE: u32 = 4_000_000_000;
 
 // A dollar, in points: from here on prices step by a cent.
@@ -9,6 +10,7 @@ pub const DOLLAR: u32 = 20_000;
 
 // The step of prices below a dollar, and from a dollar on.
 pub const FINE_STEP: u32 = 2;
+
 pub const CENT: u32 = 200;
 
 // The most shares that one order or quote has.

@@ -69,11 +69,14 @@ module _ (b : Book) (sound : Sound b) where
       absurd (omega (arith, under 4000000000 top (omega (arith, none-wanted b sound)), price-max i))
   first (suc n) i e under =
       elim (cases-lt (supplyAt b (priceAt (i + 1))) (wantedAbove b (priceAt (i + 1)))) [
-        | inr stands ↦ (priceAt (i + 1), record {
-          permitted = permitted-at (i + 1) (omega arith) (omega arith);
-          buyers = stands;
-          bottom = λ q ok h. elim (no-between i q ok) [ inl le ↦ absurd (omega (arith, under q ok h)) | inr ge ↦ ge ];
-        })
+        | inr stands ↦ (
+          priceAt (i + 1),
+          record {
+            permitted = permitted-at (i + 1) (omega arith) (omega arith);
+            buyers = stands;
+            bottom = λ q ok h. elim (no-between i q ok) [ inl le ↦ absurd (omega (arith, under q ok h)) | inr ge ↦ ge ];
+          },
+        )
         | inl fails ↦ first n (i + 1) (omega arith) (λ p ok h. elim (cases-lt (priceAt (i + 1)) p) [
           | inl lt ↦ lt
           | inr ge ↦ absurd (omega (arith, buyers-up b p (priceAt (i + 1)) ge h))

@@ -1,7 +1,7 @@
-pub mod level;
 pub mod cause;
-pub mod view;
-pub mod ladder;
-pub mod range;
 pub mod close;
+pub mod ladder;
 pub mod laws;
+pub mod level;
+pub mod range;
+pub mod view;

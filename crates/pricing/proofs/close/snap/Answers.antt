@@ -23,8 +23,7 @@ returns-then-low-high g c s =
     let hi = c .highest-high .result in
     let l = c .lowest-low .ensures .lowest s in
     let h = c .highest-high .ensures .highest s l in
-    let e : c .min-count .result ≡ countAt b lo = omega (arith, c .min-count .ensures, c .demand .ensures, c .supply .ensures) in
-    (
+    let e : c .min-count .result ≡ countAt b lo = omega (arith, c .min-count .ensures, c .demand .ensures, c .supply .ensures) in (
       something b s lo l (omega (arith, c .if-count-eq0 .left)),
       priced b s lo l hi h (c .args .reference) lo (c .min-count .result) (only-chosen (Within lo hi) (c .args .reference) lo (single b s lo l hi h (c .if-low-high .taken))) e,
     )
@@ -38,8 +37,7 @@ returns-in-Some g c s =
     let h = c .highest-high .ensures .highest s l in
     let e : c .min-count .result ≡ countAt b lo = omega (arith, c .min-count .ensures, c .demand .ensures, c .supply .ensures) in
     let near = c .nearest .ensures (l .permitted) (h .permitted) (lo-le-hi b s lo l hi h) in
-    let chosen = subst (λ ref. Chosen (Within lo hi) ref (c .nearest .result)) (sym (c .in-Some .is)) near in
-    (
+    let chosen = subst (λ ref. Chosen (Within lo hi) ref (c .nearest .result)) (sym (c .in-Some .is)) near in (
       something b s lo l (omega (arith, c .if-count-eq0 .left)),
       priced b s lo l hi h (c .args .reference) (c .nearest .result) (c .min-count .result) chosen e,
     )
@@ -51,8 +49,7 @@ returns-in-None g c s =
     let hi = c .highest-high .result in
     let l = c .lowest-low .ensures .lowest s in
     let h = c .highest-high .ensures .highest s l in
-    let e : c .min-count .result ≡ countAt b lo = omega (arith, c .min-count .ensures, c .demand .ensures, c .supply .ensures) in
-    (
+    let e : c .min-count .result ≡ countAt b lo = omega (arith, c .min-count .ensures, c .demand .ensures, c .supply .ensures) in (
       something b s lo l (omega (arith, c .if-count-eq0 .left)),
       undecided b s lo l hi h (c .args .reference) (c .in-None .is) (c .if-low-high .left),
     )
