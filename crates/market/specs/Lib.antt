@@ -5,3 +5,5 @@ pub mod Fits
 pub mod Best
 pub mod Refusals
 pub mod Questions
+pub mod Venues
+pub mod Rankings

@@ -26,3 +26,7 @@ mostShares = 1000000
 -- the most quotes that a source lists on a side
 abbrev pub mostQuotes : ℕ
 mostQuotes = 32
+
+-- how many venues a venue table has room for, numbered from 1
+abbrev pub venues : ℕ
+venues = 32

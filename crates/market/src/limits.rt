@@ -18,3 +18,6 @@ pub const MOST_SHARES: u32 = 1_000_000;
 
 // The most quotes that a source lists on a side.
 pub const MOST_QUOTES: usize = 32;
+
+// How many venues a venue table has room for, numbered from 1.
+pub const VENUES: usize = 32;

@@ -14,6 +14,10 @@ pub enum Refusal {
     ImageLayout,
     // An order of the image has a price or shares that no order may have.
     ImageOrder,
+    // There is no such venue or side.
+    VenueOrSide,
+    // The price or the shares of a quote are none that a quote may have.
+    QuoteValue,
 }
 
 impl Refusal {
@@ -26,6 +30,8 @@ impl Refusal {
             Refusal::OutputLength => 24,
             Refusal::ImageLayout => 25,
             Refusal::ImageOrder => 26,
+            Refusal::VenueOrSide => 27,
+            Refusal::QuoteValue => 28,
         }
     }
 }

@@ -21,5 +21,8 @@ pub fn refusal_words(refusal: Refusal) -> &'static str {
         Refusal::ImageLayout => "the bytes have not the layout of a book image",
         Refusal::ImageOrder =>
             "an order has a price that is not permitted or not 1 to 1,000,000 shares",
+        Refusal::VenueOrSide =>
+            "there is no such venue, 1 to 32, or side, 1 for bids and 2 for offers",
+        Refusal::QuoteValue => "the price is not permitted, or the shares are not 1 to 1,000,000",
     }
 }

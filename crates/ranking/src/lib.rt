@@ -1,0 +1,4 @@
+pub mod full;
+pub mod laws;
+pub mod rank;
+pub mod table;

@@ -1,0 +1,23 @@
+// Insertion into a ranked table, for the benchmark.
+ghost use mathlib.Core.Path.{_≡_};
+ghost use mathlib.Core.Bool.{cond};
+ghost use mathlib.Core.List.{_++_};
+ghost use Prim.Native.Nat.{_+_, _≤_};
+ghost use lib.Dec.{ltb};
+ghost use lib.ListN.{length, take, drop};
+ghost use Rattle.ranking.specs.Ranked.{placed};
+ghost use Rattle.ranking_bench.specs.Rows.{rowAhead};
+use crate::row::HigherFirst;
+use crate::row::HigherRowFirst;
+use crate::row::Row;
+use ranking::table::RankedTable;
+
+// Puts one more entry among the first `used` rows, if a row is free, and says how many entries there are then.
+#[unsafe(no_mangle)]
+pub extern "C" fn insert_row(rows: &mut [Row], used: usize, row: &Row) -> usize
+    ensures rows { λ _. ⌜ (used ≤ length (now (rows .entry)) → now (rows .exit) ≡ cond (ltb used (length (now (rows .entry)))) (placed rowAhead (now (row .entry)) (take used (now (rows .entry))) ++ drop (used + 1) (now (rows .entry))) (now (rows .entry))) ⌝ }
+{
+    let mut table = RankedTable::<Row, HigherFirst>::over(rows, used);
+    let _ = table.insert(*row);
+    table.len()
+}
