@@ -62,8 +62,7 @@ pub fn owed_shares(side: Side, price: u32, quotes: &[Quote], own: u64, other: u6
 {
     let better = quoted_better(side, price, quotes);
     let reached = quoted_to(side, price, quotes);
-    better
-        + reached
-            .saturating_sub(better)
-            .min(own.saturating_sub(better + other))
+    let at_price = reached.saturating_sub(better);
+    let beyond = own.saturating_sub(better + other);
+    better + at_price.min(beyond)
 }
