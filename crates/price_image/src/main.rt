@@ -42,7 +42,8 @@ fn run(rt: &LibcRuntime) -> Result<(), AnyError> {
     };
     print_request(rt, &request, bytes.len())?;
     print_book(rt, &book)?;
-    print_outcome(rt, &book, request.last_sale, outcome)
+    print_outcome(rt, &book, request.last_sale, outcome)?;
+    Ok(())
 }
 
 fn main(rt: LibcRuntime) -> Result<(), AnyError> {
