@@ -1,0 +1,5 @@
+pub mod Limits
+pub mod Minimum
+pub mod States
+pub mod Stages
+pub mod Questions

@@ -1,0 +1,9 @@
+pub mod call;
+pub mod common;
+pub mod limits;
+pub mod minimum;
+pub mod questions;
+pub mod stage;
+pub mod starting;
+pub mod state;
+pub mod tables;
