@@ -3,3 +3,4 @@ pub mod Minimum
 pub mod States
 pub mod Stages
 pub mod Questions
+pub mod Outstanding

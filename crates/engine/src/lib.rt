@@ -2,6 +2,7 @@ pub mod call;
 pub mod common;
 pub mod limits;
 pub mod minimum;
+pub mod outstanding;
 pub mod questions;
 pub mod stage;
 pub mod starting;
