@@ -1,6 +1,6 @@
 -- Lists made from a function of the place: the item at a place, and the steps of loops over them.
 use mathlib.Core.Path.{_≡_, refl, ap, _∙_, sym}
-use mathlib.Core.Bool.{cond}
+use mathlib.Core.Bool.{Bool, true, false, cond}
 use mathlib.Core.List.{List, [], _∷_, _++_, map}
 use Prim.Native.Nat.{ℕ, zero, suc, _+_, _≤_, _<_, min}
 use native.Mathlib.Omega.{arith}
@@ -12,7 +12,6 @@ use Rattle.std.specs.declared.option.Option.the-variants.{Some, None}
 use Rattle.std.proofs.shelf.Lists.{at-drop-more}
 use Rattle.std.proofs.shelf.Maps.{nth-getD, nth-past}
 use Rattle.std.proofs.shelf.Counted.{length-map-counting, getD-map-counting, map-counting-more, sumBy-map-counting-more}
-use Rattle.std.proofs.shelf.Tests.{cond-true, cond-false, le-leb, lt-leb}
 use Rattle.pricing.specs.declared.level.Level.{Level}
 use Rattle.pricing.specs.Books.{atOrAbove, atOrBelow}
 use Rattle.pricing.specs.Ranges.{standing, nextAbove}
@@ -44,17 +43,10 @@ module _ (f : ℕ → Level) (q i : ℕ) where
   unfolding atOrBelow
   below-more = sumBy-map-counting-more (λ l. cond (leb (l .price) q) (l .shares) 0) f 0 i i (omega arith)
 
-  pub above-yes : q ≤ f i .price → atOrAbove q (map f (counting 0 (i + 1))) ≡ atOrAbove q (map f (counting 0 i)) + f i .shares
-  above-yes h = above-more ∙ ap (λ n. atOrAbove q (map f (counting 0 i)) + n) (cond-true (leb q (f i .price)) (f i .shares) 0 (le-leb q (f i .price) h))
-
-  pub above-no : f i .price < q → atOrAbove q (map f (counting 0 (i + 1))) ≡ atOrAbove q (map f (counting 0 i))
-  above-no h = omega (arith, above-more, cond-false (leb q (f i .price)) (f i .shares) 0 (lt-leb q (f i .price) h))
-
-  pub below-yes : f i .price ≤ q → atOrBelow q (map f (counting 0 (i + 1))) ≡ atOrBelow q (map f (counting 0 i)) + f i .shares
-  below-yes h = below-more ∙ ap (λ n. atOrBelow q (map f (counting 0 i)) + n) (cond-true (leb (f i .price) q) (f i .shares) 0 (le-leb (f i .price) q h))
-
-  pub below-no : q < f i .price → atOrBelow q (map f (counting 0 (i + 1))) ≡ atOrBelow q (map f (counting 0 i))
-  below-no h = omega (arith, below-more, cond-false (leb (f i .price) q) (f i .shares) 0 (lt-leb (f i .price) q h))
+-- an entry's part of a sum is no more than its shares
+pub part-most : (t : Bool) (n : ℕ) → cond t n 0 ≤ n
+part-most true n = omega arith
+part-most false n = omega arith
 
 pub above-none : (q : ℕ) → atOrAbove q [] ≡ 0
 unfolding atOrAbove

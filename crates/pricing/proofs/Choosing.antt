@@ -5,11 +5,13 @@ use Prim.Native.Nat.{ℕ, _+_, _-_, _≤_, _<_}
 use native.Mathlib.Omega.{arith}
 use Rattle.std.specs.declared.option.Option.{Option}
 use Rattle.std.specs.declared.option.Option.the-variants.{Some, None}
-use Rattle.std.proofs.shelf.Tests.{cases-lt, cases-eq}
+use mathlib.Core.Bool.{Bool, true, false, cond}
+use lib.Dec.{ltb}
+use Rattle.std.proofs.shelf.Tests.{cases-lt, cases-eq, ltb-true, ltb-false}
 use Rattle.market.specs.Prices.{Permitted}
 use Rattle.pricing.specs.Books.{Book}
 use Rattle.pricing.specs.Candidates.{Clears, Candidate, apart, Only, Nearest, Midway, Chosen, SnapPrice}
-use Rattle.pricing.specs.Ranges.{Within, Around}
+use Rattle.pricing.specs.Ranges.{nearerOf, Within, Around}
 use Rattle.pricing.proofs.Sides.{buyers-up, sellers-down}
 
 module _ (C : ℕ → Type 0) where
@@ -121,7 +123,7 @@ module _ (lo hi r : ℕ) (low : Permitted lo) (high : Permitted hi) where
     high-in : Within lo hi b
     high-in = record { permitted = around .highOf; from = omega (arith, around .over); to = le-hi }
 
-    pub choose-down : r - a < b - r → Nearest (Within lo hi) r a
+    choose-down : r - a < b - r → Nearest (Within lo hi) r a
     choose-down h = record {
       candidate = low-in;
       nearest = λ q i ne. elim (around .none q (i .permitted)) [
@@ -130,7 +132,7 @@ module _ (lo hi r : ℕ) (low : Permitted lo) (high : Permitted hi) where
       ];
     }
 
-    pub choose-up : b - r < r - a → Nearest (Within lo hi) r b
+    choose-up : b - r < r - a → Nearest (Within lo hi) r b
     choose-up h = record {
       candidate = high-in;
       nearest = λ q i ne. elim (around .none q (i .permitted)) [
@@ -139,7 +141,7 @@ module _ (lo hi r : ℕ) (low : Permitted lo) (high : Permitted hi) where
       ];
     }
 
-    pub choose-middle : r - a ≡ b - r → Midway (Within lo hi) r r
+    choose-middle : r - a ≡ b - r → Midway (Within lo hi) r r
     choose-middle h = record {
       low = a;
       high = b;
@@ -153,3 +155,15 @@ module _ (lo hi r : ℕ) (low : Permitted lo) (high : Permitted hi) where
       ];
       itself = refl;
     }
+
+    up-by : (u : Bool) → ltb (b - r) (r - a) ≡ u → b - r ≤ r - a → Chosen (Within lo hi) (Some r) (cond u b r)
+    up-by true e h = inr (inl (choose-up (ltb-true (b - r) (r - a) e)))
+    up-by false e h = inr (inr (choose-middle (omega (arith, ltb-false (b - r) (r - a) e))))
+
+    down-by : (t : Bool) → ltb (r - a) (b - r) ≡ t → Chosen (Within lo hi) (Some r) (cond t a (cond (ltb (b - r) (r - a)) b r))
+    down-by true e = inr (inl (choose-down (ltb-true (r - a) (b - r) e)))
+    down-by false e = up-by (ltb (b - r) (r - a)) refl (ltb-false (r - a) (b - r) e)
+
+    -- the nearer of the two neighbours, or the reference
+    pub choose-nearer : Chosen (Within lo hi) (Some r) (nearerOf r a b)
+    choose-nearer = down-by (ltb (r - a) (b - r)) refl

@@ -27,6 +27,10 @@ nextPrice b q =
 abbrev pub priceAt : ℕ → ℕ
 priceAt i = cond (leb i 9999) (2 * i) (20000 + 200 * (i - 10000))
 
+-- of a and b around r the nearer one; midway, r itself
+abbrev pub nearerOf : ℕ → ℕ → ℕ → ℕ
+nearerOf r a b = cond (ltb (r - a) (b - r)) a (cond (ltb (b - r) (r - a)) b r)
+
 -- the permitted prices from lo to hi
 pub record Within (lo hi q : ℕ) : Type 0 where
   pub permitted : Permitted q

@@ -36,13 +36,20 @@ pub fn reference_price(last_sale: u32, bid: Option<u32>, offer: Option<u32>) -> 
     }
 }
 
+// How many shares find both a buyer and a seller at a price.
+fn count_at<B: BookView>(view: &B, price: u32) -> u64
+    ensures { λ r. ⌜ r ≡ countAt (book (now (view .entry))) price ⌝ }
+{
+    view.demand(price).min(view.supply(price))
+}
+
 // The SNAP Price under a reference, and its count.
 fn snap<B: BookView>(view: &B, reference: Option<u32>) -> Result<(u32, u64), Cause>
     ensures { λ r. ⌜ (Sound (book (now (view .entry))) → Snapped (book (now (view .entry))) reference r) ⌝ }
 {
     let low = lowest(view);
     let high = highest(view, low);
-    let count = view.demand(low).min(view.supply(low));
+    let count = count_at(view, low);
     if count == 0 {
         return Err(Cause::NothingToTrade);
     }

@@ -2,7 +2,7 @@
 ghost use mathlib.Core.Path.{_≡_};
 ghost use Prim.Native.Nat.{ℕ, _≤_, _<_};
 ghost use Rattle.market.specs.Prices.{Permitted};
-ghost use Rattle.pricing.specs.Ranges.{priceAt, Around, Within};
+ghost use Rattle.pricing.specs.Ranges.{priceAt, nearerOf, Around, Within};
 ghost use Rattle.pricing.specs.Candidates.{Chosen};
 ghost use Rattle.std.specs.declared.option.Option.the-variants.{Some};
 use market::limits::CENT;
@@ -37,6 +37,21 @@ fn neighbours(price: u32) -> (u32, u32)
     (below, below + step)
 }
 
+// Of two prices around a reference the nearer one; midway, the reference itself.
+fn nearer(reference: u32, below: u32, above: u32) -> u32
+    ensures { λ r. ⌜ r ≡ nearerOf reference below above ⌝ }
+{
+    let down = reference.saturating_sub(below);
+    let up = above.saturating_sub(reference);
+    if down < up {
+        below
+    } else if up < down {
+        above
+    } else {
+        reference
+    }
+}
+
 // The price nearest to the reference from `low` to `high`; midway between two, the reference itself.
 pub(crate) fn nearest(low: u32, high: u32, reference: u32) -> u32
     requires { ⌜ 2 ≤ low ⌝ ∗ ⌜ high ≤ 4000000000 ⌝ }
@@ -49,13 +64,5 @@ pub(crate) fn nearest(low: u32, high: u32, reference: u32) -> u32
         return high;
     }
     let (below, above) = neighbours(reference);
-    let down = reference - below;
-    let up = above - reference;
-    if down < up {
-        below
-    } else if up < down {
-        above
-    } else {
-        reference
-    }
+    nearer(reference, below, above)
 }

@@ -21,11 +21,11 @@ use Rattle.pricing.specs.declared.cause.Cause.the-variants.{NothingToTrade, Loc
 use Rattle.pricing.specs.Books.{Book, levels, Standing, Sound, demandAt, supplyAt, countAt, wantedAbove}
 use Rattle.pricing.specs.Candidates.{Chosen, apart}
 use Rattle.pricing.specs.Closing.{Outcome, Closing, Snapped, Orderly, touching, bestOn, reference}
-use Rattle.pricing.specs.Ranges.{nextPrice, Within, Around, Lowest, Highest}
+use Rattle.pricing.specs.Ranges.{nextPrice, nearerOf, Within, Around, Lowest, Highest}
 use Rattle.pricing.proofs.Sides.{wanted-is, buyers-up}
 use Rattle.pricing.proofs.Rows.{lo-le-hi}
 use Rattle.pricing.proofs.Next.{highest-next, highest-same}
-use Rattle.pricing.proofs.Choosing.{only-chosen, choose-low, choose-high, choose-down, choose-up, choose-middle}
+use Rattle.pricing.proofs.Choosing.{only-chosen, choose-low, choose-high, choose-nearer}
 use Rattle.pricing.proofs.Outcomes.{nothing, something, single, priced, undecided}
 
 -- the step of permitted prices at and above a price, and below it
@@ -63,11 +63,8 @@ abbrev highOf : Book → ℕ → ℕ
 highOf b lo = cond (eqb (demandAt b (lo + 1)) (supplyAt b lo)) (nextPrice b lo) lo
 
 -- the price from lo to hi that is nearest to r, or r itself
-abbrev between : ℕ → ℕ → ℕ → ℕ
-between r a b = cond (ltb (r - a) (b - r)) a (cond (ltb (b - r) (r - a)) b r)
-
 abbrev nearestTo : ℕ → ℕ → ℕ → ℕ
-nearestTo lo hi r = cond (leb r lo) lo (cond (leb hi r) hi (between r (r - r % stepFrom r) (r - r % stepFrom r + stepFrom r)))
+nearestTo lo hi r = cond (leb r lo) lo (cond (leb hi r) hi (nearerOf r (r - r % stepFrom r) (r - r % stepFrom r + stepFrom r)))
 
 abbrev chosenBy : Option ℕ → ℕ → ℕ → ℕ → Outcome
 chosenBy None lo hi n = Err NoReference
@@ -171,26 +168,17 @@ around-by r false e low high = around-coarse r (ltb-false r 20000 e) high
 
 -- the nearest price in a row of permitted prices
 module _ (lo hi r : ℕ) (low : Permitted lo) (high : Permitted hi) (le : lo ≤ hi) where
-  module _ (a b : ℕ) (around : Around r a b) (past : lo < r) (short : r < hi) where
-    up-by : (u : Bool) → ltb (b - r) (r - a) ≡ u → b - r ≤ r - a → Chosen (Within lo hi) (Some r) (cond u b r)
-    up-by true e h = inr (inl (choose-up lo hi r low high a b around past short (ltb-true (b - r) (r - a) e)))
-    up-by false e h = inr (inr (choose-middle lo hi r low high a b around past short (omega (arith, ltb-false (b - r) (r - a) e))))
-
-    down-by : (t : Bool) → ltb (r - a) (b - r) ≡ t → Chosen (Within lo hi) (Some r) (cond t a (cond (ltb (b - r) (r - a)) b r))
-    down-by true e = inr (inl (choose-down lo hi r low high a b around past short (ltb-true (r - a) (b - r) e)))
-    down-by false e = up-by (ltb (b - r) (r - a)) refl (ltb-false (r - a) (b - r) e)
-
-  inside : lo < r → r < hi → Chosen (Within lo hi) (Some r) (between r (r - r % stepFrom r) (r - r % stepFrom r + stepFrom r))
+  inside : lo < r → r < hi → Chosen (Within lo hi) (Some r) (nearerOf r (r - r % stepFrom r) (r - r % stepFrom r + stepFrom r))
   inside past short =
       let a = r - r % stepFrom r in
       let around = around-by r (ltb r 20000) refl (omega (arith, grid lo low .least)) (omega (arith, grid hi high .most)) in
-      down-by a (a + stepFrom r) around past short (ltb (r - a) (a + stepFrom r - r)) refl
+      choose-nearer lo hi r low high a (a + stepFrom r) around past short
 
-  below-high : (t : Bool) → leb hi r ≡ t → lo < r → Chosen (Within lo hi) (Some r) (cond t hi (between r (r - r % stepFrom r) (r - r % stepFrom r + stepFrom r)))
+  below-high : (t : Bool) → leb hi r ≡ t → lo < r → Chosen (Within lo hi) (Some r) (cond t hi (nearerOf r (r - r % stepFrom r) (r - r % stepFrom r + stepFrom r)))
   below-high true e past = inr (inl (choose-high lo hi r low high le (leb-true hi r e)))
   below-high false e past = inside past (leb-false hi r e)
 
-  above-low : (t : Bool) → leb r lo ≡ t → Chosen (Within lo hi) (Some r) (cond t lo (cond (leb hi r) hi (between r (r - r % stepFrom r) (r - r % stepFrom r + stepFrom r))))
+  above-low : (t : Bool) → leb r lo ≡ t → Chosen (Within lo hi) (Some r) (cond t lo (cond (leb hi r) hi (nearerOf r (r - r % stepFrom r) (r - r % stepFrom r + stepFrom r))))
   above-low true e = inr (inl (choose-low lo hi r low high le (leb-true r lo e)))
   above-low false e = below-high (leb hi r) refl (leb-false r lo e)
 

@@ -14,7 +14,7 @@ returns-then-count-eq0 g c s =
     let b = g .B·BookView .book (c .args .view .now) in
     let lo = c .lowest-low .result in
     let l = c .lowest-low .ensures .lowest s in
-    nothing b s lo l (omega (arith, c .min-count .ensures, c .demand .ensures, c .supply .ensures))
+    nothing b s lo l (omega (arith, c .count-at-count .ensures))
 
 pub returns-then-low-high : need.returns-then-low-high
 returns-then-low-high g c s =
@@ -23,9 +23,9 @@ returns-then-low-high g c s =
     let hi = c .highest-high .result in
     let l = c .lowest-low .ensures .lowest s in
     let h = c .highest-high .ensures .highest s l in
-    let e : c .min-count .result ≡ countAt b lo = omega (arith, c .min-count .ensures, c .demand .ensures, c .supply .ensures) in (
+    let e : c .count-at-count .result ≡ countAt b lo = omega (arith, c .count-at-count .ensures) in (
       something b s lo l (omega (arith, c .if-count-eq0 .left)),
-      priced b s lo l hi h (c .args .reference) lo (c .min-count .result) (only-chosen (Within lo hi) (c .args .reference) lo (single b s lo l hi h (c .if-low-high .taken))) e,
+      priced b s lo l hi h (c .args .reference) lo (c .count-at-count .result) (only-chosen (Within lo hi) (c .args .reference) lo (single b s lo l hi h (c .if-low-high .taken))) e,
     )
 
 pub returns-in-Some : need.returns-in-Some
@@ -35,11 +35,11 @@ returns-in-Some g c s =
     let hi = c .highest-high .result in
     let l = c .lowest-low .ensures .lowest s in
     let h = c .highest-high .ensures .highest s l in
-    let e : c .min-count .result ≡ countAt b lo = omega (arith, c .min-count .ensures, c .demand .ensures, c .supply .ensures) in
+    let e : c .count-at-count .result ≡ countAt b lo = omega (arith, c .count-at-count .ensures) in
     let near = c .nearest .ensures (l .permitted) (h .permitted) (lo-le-hi b s lo l hi h) in
     let chosen = subst (λ ref. Chosen (Within lo hi) ref (c .nearest .result)) (sym (c .in-Some .is)) near in (
       something b s lo l (omega (arith, c .if-count-eq0 .left)),
-      priced b s lo l hi h (c .args .reference) (c .nearest .result) (c .min-count .result) chosen e,
+      priced b s lo l hi h (c .args .reference) (c .nearest .result) (c .count-at-count .result) chosen e,
     )
 
 pub returns-in-None : need.returns-in-None
@@ -49,7 +49,7 @@ returns-in-None g c s =
     let hi = c .highest-high .result in
     let l = c .lowest-low .ensures .lowest s in
     let h = c .highest-high .ensures .highest s l in
-    let e : c .min-count .result ≡ countAt b lo = omega (arith, c .min-count .ensures, c .demand .ensures, c .supply .ensures) in (
+    let e : c .count-at-count .result ≡ countAt b lo = omega (arith, c .count-at-count .ensures) in (
       something b s lo l (omega (arith, c .if-count-eq0 .left)),
       undecided b s lo l hi h (c .args .reference) (c .in-None .is) (c .if-low-high .left),
     )

@@ -1,16 +1,12 @@
-use mathlib.Core.Logic.{inl, inr}
+use mathlib.Core.Path.{sym, subst}
 use native.Mathlib.Omega.{arith}
-use Rattle.pricing.proofs.Choosing.{choose-low, choose-high, choose-down, choose-up, choose-middle}
+use Rattle.std.specs.declared.option.Option.the-variants.{Some}
+use Rattle.pricing.specs.Candidates.{Chosen}
+use Rattle.pricing.specs.Ranges.{Within}
+use Rattle.pricing.proofs.Choosing.{choose-nearer}
 use Rattle.pricing.proofs.ladder.nearest.Needs as need
 
-pub returns-then-down-up : need.returns-then-down-up
-returns-then-down-up c lo hi le =
-    inr (inl (choose-down _ _ _ lo hi _ _ (c .neighbours-below .ensures) (omega arith) (omega arith) (omega arith)))
-
-pub returns-then-up-down : need.returns-then-up-down
-returns-then-up-down c lo hi le =
-    inr (inl (choose-up _ _ _ lo hi _ _ (c .neighbours-below .ensures) (omega arith) (omega arith) (omega arith)))
-
-pub returns-else-up-down : need.returns-else-up-down
-returns-else-up-down c lo hi le =
-    inr (inr (choose-middle _ _ _ lo hi _ _ (c .neighbours-below .ensures) (omega arith) (omega arith) (omega arith)))
+pub returns : need.returns
+returns c lo hi le =
+    subst (Chosen (Within (c .args .low) (c .args .high)) (Some (c .args .reference))) (sym (c .nearer .ensures))
+    (choose-nearer (c .args .low) (c .args .high) (c .args .reference) lo hi (c .neighbours-below .result .0) (c .neighbours-below .result .1) (c .neighbours-below .ensures) (omega arith) (omega arith))

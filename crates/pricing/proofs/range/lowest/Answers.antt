@@ -2,6 +2,7 @@ use mathlib.Core.Path.{_≡_, sym, subst}
 use mathlib.Core.Logic.{inl, inr}
 use native.Mathlib.Omega.{arith}
 use Prim.Native.Nat.{ℕ, _≤_, _<_, _+_}
+use Rattle.std.proofs.shelf.Tests.{leb-true, leb-false}
 use Rattle.market.proofs.Grid.{grid}
 use Rattle.pricing.specs.Books.{wantedAbove, supplyAt}
 use Rattle.pricing.specs.Ranges.{priceAt, Lowest}
@@ -13,16 +14,16 @@ pub loop-low-holds : need.loop-low-holds
 loop-low-holds g c =
     (omega arith, omega arith, λ s. omega (arith, none-wanted _ s), λ s q ok h. omega (arith, grid q ok .least))
 
-pub loop-low-again-then-demand-supply : need.loop-low-again-then-demand-supply
-loop-low-again-then-demand-supply g c =
+pub loop-low-again-then-is-served : need.loop-low-again-then-is-served
+loop-low-again-then-is-served g c =
     let b = g .B·BookView .book (c .args .view .now) in
-    let here = buyers-pass b (c .price-at-price .result) (omega (arith, c .supply .ensures, c .demand .ensures)) in
+    let here = buyers-pass b (c .price-at-price .result) (leb-true _ _ (sym (c .if-is-served .ensures tt))) in
     (omega arith, omega arith, λ s. subst (λ x. wantedAbove b x ≤ supplyAt b x) (c .price-at-price .ensures) here, c .loop-low .inv .3)
 
 pub loop-low-again : need.loop-low-again
 loop-low-again g c =
     let b = g .B·BookView .book (c .args .view .now) in
-    let here = buyers-fail b (c .price-at-price .result) (omega (arith, c .supply .ensures, c .demand .ensures)) in
+    let here = buyers-fail b (c .price-at-price .result) (leb-false _ _ (sym (c .if-is-served .ensures tt))) in
     (omega arith, omega arith, c .loop-low .inv .2, λ s q ok h. subst (λ x. x < q) (c .price-at-price .ensures) (here q h))
 
 pub returns : need.returns

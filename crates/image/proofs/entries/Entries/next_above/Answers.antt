@@ -1,4 +1,4 @@
-use mathlib.Core.Path.{_≡_, ap, _∙_}
+use mathlib.Core.Path.{_≡_, sym, ap, _∙_}
 use mathlib.Core.List.{map}
 use native.Mathlib.Omega.{arith}
 use Prim.Native.Nat.{min}
@@ -6,6 +6,7 @@ use Rattle.std.specs.Iters.{counting}
 use Rattle.pricing.specs.Ranges.{standing, nextAbove}
 use Rattle.image.specs.Entries.{levelAt, lengthIn}
 use Rattle.image.proofs.Lists.{next-more}
+use Rattle.image.proofs.Meanings.{levels-in}
 use Rattle.image.proofs.entries.Entries.next_above.Needs as need
 
 pub loop-place-again : need.loop-place-again
@@ -21,4 +22,5 @@ returns c =
     let ps = c .args .self .now .prices .now in
     let ss = c .args .self .now .shares .now in
     let e : c .loop-place .place ≡ lengthIn ps ss = omega (arith, c .len-place-end .ensures .is) in
-    c .loop-place .inv ∙ ap (λ n. nextAbove (c .args .price) (map (levelAt ps ss) (counting 0 n))) e
+    let is = c .loop-place .inv ∙ ap (λ n. nextAbove (c .args .price) (map (levelAt ps ss) (counting 0 n))) e in
+    record { is = is; quoted = is ∙ sym (ap (nextAbove (c .args .price)) (levels-in ps ss)) }
