@@ -21,10 +21,10 @@ pub fn call<S: QuoteSource>(
     source: &S,
     tables: &mut Tables<'_>,
 ) -> Result<Answer, Refusal>
-    ensures called { Called engine.old (meaning source.now) (held tables.old) call (left engine.new tables.new result) }
+    ensures called { Called engine.old (S.meaning source.now) (held tables.old) call (left engine.new tables.new result) }
     ensures refused { Untouched engine.old (held tables.old) (left engine.new tables.new result) }
-    ensures unread { Unread engine.old (meaning source.now) (held tables.old) call (left engine.new tables.new result) }
-    ensures lawful { (y : Tally) → History engine.old (held tables.old) y → Lawful y (meaning source.now) call (left engine.new tables.new result) }
+    ensures unread { Unread engine.old (S.meaning source.now) (held tables.old) call (left engine.new tables.new result) }
+    ensures lawful { (y : Tally) → History engine.old (held tables.old) y → Lawful y (S.meaning source.now) call (left engine.new tables.new result) }
     ensures sizes { SameSizes (held tables.new) (held tables.old) }
     ensures names { SameTables tables.old tables.new }
 {

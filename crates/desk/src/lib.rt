@@ -1,2 +1,4 @@
+#![tactic(auto)]
+
 pub mod depth;
 pub mod desk;

@@ -19,7 +19,7 @@ impl Engine {
         source: &S,
         tables: &mut Tables<'_>,
     ) -> Result<Answer, Refusal>
-        ensures called { Called self.old (meaning source.now) (held tables.old) call (left self.new tables.new result) }
+        ensures called { Called self.old (S.meaning source.now) (held tables.old) call (left self.new tables.new result) }
         ensures names { SameTables tables.old tables.new }
     {
         if !tables.sizes_fit() {
@@ -59,9 +59,9 @@ impl Engine {
         source: &S,
         tables: &mut Tables<'_>,
     ) -> Result<Answer, Refusal>
-        ensures called { Called self.old (meaning source.now) (held tables.old) call (left self.new tables.new result) }
+        ensures called { Called self.old (S.meaning source.now) (held tables.old) call (left self.new tables.new result) }
         ensures refused { Untouched self.old (held tables.old) (left self.new tables.new result) }
-        ensures unread { Unread self.old (meaning source.now) (held tables.old) call (left self.new tables.new result) }
+        ensures unread { Unread self.old (S.meaning source.now) (held tables.old) call (left self.new tables.new result) }
         ensures sizes { SameSizes (held tables.new) (held tables.old) }
         ensures names { SameTables tables.old tables.new }
     {

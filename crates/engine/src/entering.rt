@@ -81,7 +81,7 @@ impl Engine {
         tables: &mut Tables<'_>,
     ) -> Result<Answer, Refusal>
         requires sizes { sizes_fit (held tables.old) ≡ true }
-        ensures step { left self.new tables.new result ≡ unless (first_no (begin_questions self.old (meaning source.now) time order facts)) self.old (held tables.old) (begin self.old (held tables.old) time order facts) }
+        ensures step { left self.new tables.new result ≡ unless (first_no (begin_questions self.old (S.meaning source.now) time order facts)) self.old (held tables.old) (begin self.old (held tables.old) time order facts) }
         ensures names { SameTables tables.old tables.new }
     {
         if let Some(refusal) = self.begin_refusal(source, time, order, facts) {

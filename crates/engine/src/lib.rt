@@ -1,3 +1,5 @@
+#![tactic(auto)]
+
 pub mod answer;
 pub mod book;
 pub mod call;

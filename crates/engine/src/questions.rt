@@ -76,7 +76,7 @@ impl Engine {
         time: u32,
         last_sale: u32,
     ) -> Option<Refusal>
-        ensures { result ≡ first_no (close_questions self.now (meaning source.now) time last_sale) }
+        ensures { result ≡ first_no (close_questions self.now (S.meaning source.now) time last_sale) }
     {
         if !self.time_fits(time) {
             return Some(Refusal::TimeRange);

@@ -18,7 +18,7 @@ use orders::order::{Order, well_formed};
 
 // A bid and an offer, and no bid above an offer.
 fn is_two_sided<S: QuoteSource>(source: &S) -> bool
-    ensures { result ≡ two_sided (meaning source.now) }
+    ensures { result ≡ two_sided (S.meaning source.now) }
 {
     match (
         best_price(source, Side::Buy),
@@ -31,7 +31,7 @@ fn is_two_sided<S: QuoteSource>(source: &S) -> bool
 
 // A buy reaches the best offer, a sell the best bid.
 fn reaches_quote<S: QuoteSource>(order: Order, source: &S) -> bool
-    ensures { result ≡ reaches order (meaning source.now) }
+    ensures { result ≡ reaches order (S.meaning source.now) }
 {
     if order.side == 1 {
         match best_price(source, Side::Sell) {
@@ -95,7 +95,7 @@ impl Engine {
         order: Order,
         facts: Facts,
     ) -> Option<Refusal>
-        ensures { result ≡ first_no (begin_questions self.now (meaning source.now) time order facts) }
+        ensures { result ≡ first_no (begin_questions self.now (S.meaning source.now) time order facts) }
     {
         if !self.time_fits(time) {
             return Some(Refusal::TimeRange);

@@ -2,7 +2,7 @@
 use Rattle.std.proofs.Common.{◌≡◌, ℕ, ◌+◌, ◌%◌, ◌≤◌, inl, inr, arith}
 use Rattle.std.proofs.lemmas.Bool.Decides.{nat_tests}
 use Rattle.std.proofs.lemmas.Bool.{cases_lt}
-use Rattle.market.specs.Prices.{permitted, Permitted}
+use Rattle.market.specs.Prices.{Permitted}
 
 pub record Grid (q : ℕ) : Type 0 where
   pub even : q % 2 ≡ 0

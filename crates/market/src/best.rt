@@ -18,7 +18,7 @@ fn better_price(side: Side, a: u32, b: u32) -> u32
 
 // The best price quoted on a side; none where nothing is quoted.
 pub fn best_price<S: QuoteSource>(source: &S, side: Side) -> Option<u32>
-    ensures { result ≡ best_price side (quotes_on side (meaning source.now)) }
+    ensures { result ≡ best_price side (quotes_on side (S.meaning source.now)) }
 {
     let Some(first) = source.quote(side, 0) else {
         return None;

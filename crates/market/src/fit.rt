@@ -17,7 +17,7 @@ fn quote_fits(quote: Quote) -> bool
 
 // At most 32 quotes on a side, each with a permitted price and 1 to 1,000,000 shares.
 fn side_fits<S: QuoteSource>(source: &S, side: Side) -> bool
-    ensures { result ≡ side_fits (quotes_on side (meaning source.now)) }
+    ensures { result ≡ side_fits (quotes_on side (S.meaning source.now)) }
 {
     let count = source.count(side);
     if count > MOST_QUOTES {
@@ -35,7 +35,7 @@ fn side_fits<S: QuoteSource>(source: &S, side: Side) -> bool
 
 // Whether both sides of a source fit.
 pub fn quotes_fit<S: QuoteSource>(source: &S) -> bool
-    ensures { result ≡ quotes_fit (meaning source.now) }
+    ensures { result ≡ quotes_fit (S.meaning source.now) }
 {
     side_fits(source, Side::Buy) && side_fits(source, Side::Sell)
 }

@@ -1,3 +1,5 @@
+#![tactic(auto)]
+
 pub mod best;
 pub mod fit;
 pub mod limits;

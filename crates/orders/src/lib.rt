@@ -1,3 +1,5 @@
+#![tactic(auto)]
+
 pub mod laws;
 pub mod order;
 pub mod rankings;

@@ -1,3 +1,5 @@
+#![tactic(auto)]
+
 // Plays calls on an engine: a line of standard input is a call, and a line of standard output its answer with a digest
 // of the engine and of every table.
 mod digest;

@@ -1,3 +1,5 @@
+#![tactic(auto)]
+
 // Plays one whole cycle on a table of venues, and prints the record of it.
 mod cycle;
 mod session;

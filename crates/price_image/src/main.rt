@@ -1,3 +1,5 @@
+#![tactic(auto)]
+
 // Prices a book image and prints a record of it: price_image [IMAGE [LAST-SALE]].
 mod record;
 mod request;

@@ -36,14 +36,14 @@ pub fn reference_price(last_sale: u32, bid: Option<u32>, offer: Option<u32>) -> 
 
 // How many shares find both a buyer and a seller at a price.
 fn count_at<B: BookView>(view: &B, price: u32) -> u64
-    ensures { result ≡ count_at (book view.now) price }
+    ensures { result ≡ count_at (B.book view.now) price }
 {
     view.demand(price).min(view.supply(price))
 }
 
 // The SNAP Price under a reference, and its count.
 fn snap<B: BookView>(view: &B, reference: Option<u32>) -> Result<(u32, u64), Cause>
-    ensures { Sound (book view.now) → Snapped (book view.now) reference result }
+    ensures { Sound (B.book view.now) → Snapped (B.book view.now) reference result }
 {
     let low = lowest(view);
     let high = highest(view, low);
@@ -62,7 +62,7 @@ fn snap<B: BookView>(view: &B, reference: Option<u32>) -> Result<(u32, u64), Cau
 
 // The outcome by the order of the causes.
 fn settle<B: BookView>(view: &B, halted: bool, last_sale: u32) -> Result<(u32, u64), Cause>
-    ensures { Sound (book view.now) → Closing halted (book view.now) last_sale result }
+    ensures { Sound (B.book view.now) → Closing halted (B.book view.now) last_sale result }
 {
     if halted {
         return Err(Cause::Halted);
@@ -78,9 +78,9 @@ fn settle<B: BookView>(view: &B, halted: bool, last_sale: u32) -> Result<(u32, u
 // The outcome of a close on a book of permitted prices: the SNAP Price and its count, or the cause why
 // there is none. On any other book it answers too, but its answer is free.
 pub fn close_price<B: BookView>(view: &B, halted: bool, last_sale: u32) -> Result<(u32, u64), Cause>
-    ensures outcome { Sound (book view.now) → Closing halted (book view.now) last_sale result }
-    ensures best { Sound (book view.now) → Best (book view.now) result }
-    ensures nothing { Sound (book view.now) → Orderly halted (book view.now) → ((q : ℕ) → count_at (book view.now) q ≡ 0) → result ≡ Err NothingToTrade }
+    ensures outcome { Sound (B.book view.now) → Closing halted (B.book view.now) last_sale result }
+    ensures best { Sound (B.book view.now) → Best (B.book view.now) result }
+    ensures nothing { Sound (B.book view.now) → Orderly halted (B.book view.now) → ((q : ℕ) → count_at (B.book view.now) q ≡ 0) → result ≡ Err NothingToTrade }
 {
     settle(view, halted, last_sale)
 }

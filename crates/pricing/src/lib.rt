@@ -1,3 +1,5 @@
+#![tactic(auto)]
+
 pub mod cause;
 pub mod close;
 pub mod ladder;

@@ -9,7 +9,7 @@ use crate::view::BookView;
 // Whether the shares wanted above a price can be had at it.
 fn is_served<B: BookView>(view: &B, price: u32) -> bool
     requires { price ≤ 4000000000 }
-    ensures { result ≡ nat_le (demand_at (book view.now) (price + 1)) (supply_at (book view.now) price) }
+    ensures { result ≡ nat_le (demand_at (B.book view.now) (price + 1)) (supply_at (B.book view.now) price) }
 {
     view.demand(price + 1) <= view.supply(price)
 }
@@ -17,7 +17,7 @@ fn is_served<B: BookView>(view: &B, price: u32) -> bool
 // Whether the shares wanted above a price are just those to be had at it.
 fn is_balanced<B: BookView>(view: &B, price: u32) -> bool
     requires { price ≤ 4000000000 }
-    ensures { result ≡ (demand_at (book view.now) (price + 1) == supply_at (book view.now) price) }
+    ensures { result ≡ (demand_at (B.book view.now) (price + 1) == supply_at (B.book view.now) price) }
 {
     view.demand(price + 1) == view.supply(price)
 }
@@ -25,7 +25,7 @@ fn is_balanced<B: BookView>(view: &B, price: u32) -> bool
 // The least permitted price at which what is wanted above it can be had.
 pub(crate) fn lowest<B: BookView>(view: &B) -> u32
     ensures inside { (2 ≤ result) × (result ≤ 4000000000) }
-    ensures lowest { Sound (book view.now) → Lowest (book view.now) result }
+    ensures lowest { Sound (B.book view.now) → Lowest (B.book view.now) result }
 {
     let mut low = 0;
     let mut high = PRICES;
@@ -46,7 +46,7 @@ pub(crate) fn lowest<B: BookView>(view: &B) -> u32
 pub(crate) fn highest<B: BookView>(view: &B, lowest: u32) -> u32
     requires { lowest ≤ 4000000000 }
     ensures inside { result ≤ 4000000000 }
-    ensures highest { Sound (book view.now) → Lowest (book view.now) lowest → Highest (book view.now) result }
+    ensures highest { Sound (B.book view.now) → Lowest (B.book view.now) lowest → Highest (B.book view.now) result }
 {
     if is_balanced(view, lowest) {
         view.next_price(lowest)

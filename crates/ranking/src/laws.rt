@@ -5,7 +5,7 @@ use crate::rank::Ranking;
 
 // There is one way at most to put entries into rank order, where no two are level, so entries may come in any order.
 pub fn ranking_laws<E, R: Ranking<E>>() -> u8
-    ensures { Laws ahead }
+    ensures { Laws R.ahead }
 {
     0
 }

@@ -1,3 +1,5 @@
+#![tactic(auto)]
+
 pub mod full;
 pub mod laws;
 pub mod rank;

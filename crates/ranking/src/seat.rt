@@ -10,7 +10,7 @@ use crate::table::RankedTable;
 // then nothing changes.
 pub fn seat<E: Copy, R: Ranking<E>>(rows: &mut [E], used: usize, entry: E) -> Result<(), Full>
     ensures done { is_ok result ≡ nat_lt used (length rows.old) }
-    ensures rows { rows.new ≡ (if ltb used (length rows.old) then placed ahead entry (take used rows.old) ++ drop (used + 1) rows.old else rows.old) }
+    ensures rows { rows.new ≡ (if ltb used (length rows.old) then placed R.ahead entry (take used rows.old) ++ drop (used + 1) rows.old else rows.old) }
 {
     if used >= rows.len() {
         return Err(Full);

@@ -1,2 +1,4 @@
+#![tactic(auto)]
+
 pub mod numbers;
 pub mod words;

@@ -8,14 +8,14 @@ use ranking::rank::Ranking;
 pub fn allotment_laws<E, R: Ranking<E>>() -> u8
     ensures handed { HandedOut }
     ensures rank { AheadFirst }
-    ensures allots { WalkAllots ahead }
+    ensures allots { WalkAllots R.ahead }
 {
     0
 }
 
 // Of every ranking of the rows of a side.
 pub fn row_laws<R: Ranking<OrderRow>>() -> u8
-    ensures handed { RowsHanded ahead }
+    ensures handed { RowsHanded R.ahead }
     ensures kept { NoneKeptAhead }
 {
     0

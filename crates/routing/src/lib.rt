@@ -1,3 +1,5 @@
+#![tactic(auto)]
+
 pub mod laws;
 pub mod owed;
 pub mod ticket;

@@ -1,2 +1,4 @@
+#![tactic(auto)]
+
 pub mod accounts;
 pub mod sheets;

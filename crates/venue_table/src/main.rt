@@ -1,3 +1,5 @@
+#![tactic(auto)]
+
 // Shows a venue table being filled, changed, halted and listed.
 use market::best::best_price;
 use market::fit::quotes_fit;

@@ -1,3 +1,5 @@
+#![tactic(auto)]
+
 // Prices the worked books through the exported function, and prints what it got.
 mod books;
 mod bytes;

@@ -4,7 +4,7 @@ use Rattle.market.specs.Markets.{quotes_on}
 use Rattle.market.specs.Best.{best_of, best_price}
 use Rattle.market.proofs.Places.{nth_none, at_nth_more}
 use Rattle.market.proofs.best.best_price.Goals as goal
-use Rattle.market.proofs.best.best_price.Goals.{in-Some-quote, in-default-quote}
+use Rattle.market.proofs.best.best_price.Goals.{in-Some-quote, in_default-quote}
 
 pub loop-place-preserved : goal.loop-place-preserved
 loop-place-preserved g c =
@@ -13,8 +13,8 @@ loop-place-preserved g c =
     elim c.match-quote-2.branch [
       | in-Some-quote w ↦
           let e = at_nth_more (best_of c.args.side c.loop-place.best) xs i w.in-Some-quote.quote (sym w.in-Some-quote.ensures) in
-          (omega arith, rw (w.best-is, w.better-price-best.ensures) (sym e ∙ c.loop-place.invariant.1))
-      | in-default-quote w ↦ let past = nth_none xs i (sym w.in-default-quote.ensures) in absurd (omega arith)
+          (omega arith, rw (w.best-is, w.better_price-best.ensures) (sym e ∙ c.loop-place.invariant.1))
+      | in_default-quote w ↦ let past = nth_none xs i (sym w.in_default-quote.ensures) in absurd (omega arith)
     ]
 
 pub returns : goal.returns

@@ -8,7 +8,7 @@ loop-slot-preserved c =
     let i = c.loop-slot.slot in
     elim c.match-slots-slot.branch [
       | goal.in-Some w ↦ let e = ap length (listed_some slots i (i + 1) None _ c.loop-slot-test.true w.in-Some.is) in (omega arith, omega arith)
-      | goal.in-default w ↦ let e = ap length (listed_none slots i (i + 1) None c.loop-slot-test.true w.in-default.is) in (omega arith, omega arith)
+      | goal.in_default w ↦ let e = ap length (listed_none slots i (i + 1) None c.loop-slot-test.true w.in_default.is) in (omega arith, omega arith)
     ]
 
 pub returns : goal.returns

@@ -17,8 +17,8 @@ loop-slot-preserved c =
           let e = listed_some slots i (i + 1) None w.in-Some.mark c.loop-slot-test.true w.in-Some.is in
           let more : 0 < c.loop-slot.left = omega arith in
           rw w.left-is (sym (nth_tail _ _ c.loop-slot.left more) ∙ (rw e at c.loop-slot.invariant))
-      | goal.in-default w ↦
-          let e = listed_none slots i (i + 1) None c.loop-slot-test.true w.in-default.is in
+      | goal.in_default w ↦
+          let e = listed_none slots i (i + 1) None c.loop-slot-test.true w.in_default.is in
           rw w.left-is (rw e at c.loop-slot.invariant)
     ]
 

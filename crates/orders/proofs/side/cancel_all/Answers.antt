@@ -4,7 +4,7 @@ use Rattle.orders.proofs.side.cancel_all.Goals as goal
 
 pub loop-row-preserved : goal.loop-row-preserved
 loop-row-preserved c = (
-  swept_more _ _ _ _ _ c.loop-row.invariant.0 _ _ (omega arith) c.cancel-row.ensures.row c.cancel-row.ensures.count,
+  swept_more _ _ _ _ _ c.loop-row.invariant.0 _ _ (omega arith) c.cancel_row.ensures.row c.cancel_row.ensures.count,
   omega arith,
 )
 

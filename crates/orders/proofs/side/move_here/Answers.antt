@@ -3,7 +3,7 @@ use Rattle.orders.proofs.Handing.{going_more, going_all}
 use Rattle.orders.proofs.side.move_here.Goals as goal
 
 pub loop-row-preserved : goal.loop-row-preserved
-loop-row-preserved c = going_more _ _ _ _ _ _ c.loop-row.invariant _ _ (omega arith) c.fill-row-left.ensures.row c.fill-row-left.ensures.count
+loop-row-preserved c = going_more _ _ _ _ _ _ c.loop-row.invariant _ _ (omega arith) c.fill_row-left.ensures.row c.fill_row-left.ensures.count
 
 pub returns : goal.returns
 returns c =

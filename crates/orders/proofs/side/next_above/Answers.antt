@@ -12,7 +12,7 @@ loop-row-init c = (omega (arith, next_most c.args.price (rest_levels c.args.rows
 pub loop-row-preserved : goal.loop-row-preserved
 loop-row-preserved c =
     let e = at_drop_more (λ l. next_above c.args.price (rest_levels l)) c.args.rows.now c.loop-row.row-index empty_row (omega arith) in
-    let s = c.standing-above.ensures ∙ ap (standing c.args.price) c.level-of.ensures in
+    let s = c.standing_above.ensures ∙ ap (standing c.args.price) c.level_of.ensures in
     (omega (arith, e, s, c.loop-row.invariant.0), omega (arith, s, c.loop-row.invariant.1))
 
 pub returns : goal.returns

@@ -11,17 +11,17 @@ pub loop-low-init : goal.loop-low-init
 loop-low-init g c =
     (omega arith, omega arith, λ s. omega (arith, none_wanted _ s), λ s q ok h. omega (arith, (grid q ok).least))
 
-pub loop-low-preserved-then-is-served : goal.loop-low-preserved-then-is-served
-loop-low-preserved-then-is-served g c =
+pub loop-low-preserved-then-is_served : goal.loop-low-preserved-then-is_served
+loop-low-preserved-then-is_served g c =
     let b = g.B.BookView.book c.args.view.now in
-    let here = buyers_pass b c.price-at-price.result (leb-true _ _ (sym c.if-is-served.ensures)) in
-    (omega arith, omega arith, λ s. subst (λ x. wanted_above b x ≤ supply_at b x) c.price-at-price.ensures here, c.loop-low.invariant.3)
+    let here = buyers_pass b c.price_at-price.result (leb-true _ _ (sym c.if-is_served.ensures)) in
+    (omega arith, omega arith, λ s. subst (λ x. wanted_above b x ≤ supply_at b x) c.price_at-price.ensures here, c.loop-low.invariant.3)
 
 pub loop-low-preserved : goal.loop-low-preserved
 loop-low-preserved g c =
     let b = g.B.BookView.book c.args.view.now in
-    let here = buyers_fail b c.price-at-price.result (leb-false _ _ (sym c.if-is-served.ensures)) in
-    (omega arith, omega arith, c.loop-low.invariant.2, λ s q ok h. subst (λ x. x < q) c.price-at-price.ensures (here q h))
+    let here = buyers_fail b c.price_at-price.result (leb-false _ _ (sym c.if-is_served.ensures)) in
+    (omega arith, omega arith, c.loop-low.invariant.2, λ s q ok h. subst (λ x. x < q) c.price_at-price.ensures (here q h))
 
 pub returns : goal.returns
 returns g c =
@@ -29,8 +29,8 @@ returns g c =
     let high = c.loop-low.high in
     let e : c.loop-low.low + 1 ≡ high = omega arith in
     record {
-      inside = (omega (arith, c.price-at.ensures, price_max high), omega (arith, c.price-at.ensures, price_max high));
-      lowest = λ s. subst (Lowest b) (sym c.price-at.ensures) (record {
+      inside = (omega (arith, c.price_at.ensures, price_max high), omega (arith, c.price_at.ensures, price_max high));
+      lowest = λ s. subst (Lowest b) (sym c.price_at.ensures) (record {
         permitted = permitted_at high (omega arith) (omega arith);
         buyers = c.loop-low.invariant.2 s;
         bottom = λ q ok h. elim (no_between c.loop-low.low q ok) [

@@ -32,5 +32,5 @@ returns-in-100000000-to-999999999 c = width_is 8 c.args.n (omega arith) (omega a
 pub returns-in-1000000000-to-9999999999 : goal.returns-in-1000000000-to-9999999999
 returns-in-1000000000-to-9999999999 c = width_is 9 c.args.n (omega arith) (omega arith) (omega arith)
 
-pub returns-in-default : goal.returns-in-default
-returns-in-default c = width_most c.args.n (omega arith) (omega arith)
+pub returns-in_default : goal.returns-in_default
+returns-in_default c = width_most c.args.n (omega arith) (omega arith)

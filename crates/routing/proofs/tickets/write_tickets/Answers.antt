@@ -5,11 +5,11 @@ use Rattle.routing.proofs.tickets.write_tickets.Goals as goal
 
 pub loop-i-init : goal.loop-i-init
 loop-i-init c =
-    let e = c.order-at-order.ensures in
-    let f = c.quote-at-quote.ensures in
+    let e = c.order_at-order.ensures in
+    let f = c.quote_at-quote.ensures in
     let rest = ap (λ w. w.rest) e in
     let shares = ap (λ x. x.shares) f in (
-      at_start c.args.rows.now c.args.quotes.now c.args.routed c.args.out.now c.order-at-order.result c.quote-at-quote.result e f,
+      at_start c.args.rows.now c.args.quotes.now c.args.routed c.args.out.now c.order_at-order.result c.quote_at-quote.result e f,
       omega arith,
       omega arith,
       omega arith,
@@ -24,14 +24,14 @@ loop-i-preserved-then-order-quote c =
     let l = c.loop-i in
     let rows = c.args.rows.now in
     let quotes = c.args.quotes.now in
-    let e = c.order-at-order-then-order-quote.ensures in
+    let e = c.order_at-order-then-order-quote.ensures in
     let rest = ap (λ w. w.rest) e in
     let size : c.min-tied.result ≡ min l.left l.order.rest = omega arith in
-    let ticket : c.ticket-of.result ≡ ticket_of rows quotes (record { order = l.i; quote = l.j; shares = min l.left l.order.rest }) = cc in (
+    let ticket : c.ticket_of.result ≡ ticket_of rows quotes (record { order = l.i; quote = l.j; shares = min l.left l.order.rest }) = cc in (
       order_ends rows quotes c.args.routed c.args.out.now l.count l.out l.left l.i l.order.rest l.j l.quote.shares l.invariant.0
           c.loop-i-test.true c.if-j-quotes.true l.invariant.3 l.invariant.4
-          c.ticket-of.result c.put-ticket-count.result c.put-ticket-count.new.out c.put-ticket-count.ensures.count c.put-ticket-count.ensures.out
-          c.if-order-quote.true c.order-at-order-then-order-quote.result.rest (l.left - c.min-tied.result) ticket (omega arith) rest,
+          c.ticket_of.result c.put_ticket-count.result c.put_ticket-count.new.out c.put_ticket-count.ensures.count c.put_ticket-count.ensures.out
+          c.if-order-quote.true c.order_at-order-then-order-quote.result.rest (l.left - c.min-tied.result) ticket (omega arith) rest,
       omega arith,
       omega arith,
       omega arith,
@@ -46,14 +46,14 @@ loop-i-preserved c =
     let l = c.loop-i in
     let rows = c.args.rows.now in
     let quotes = c.args.quotes.now in
-    let f = c.quote-at-quote-else-order-quote.ensures in
+    let f = c.quote_at-quote-else-order-quote.ensures in
     let shares = ap (λ x. x.shares) f in
     let size : c.min-tied-else-order-quote.result ≡ min l.left l.quote.shares = omega arith in
-    let ticket : c.ticket-of-else-order-quote.result ≡ ticket_of rows quotes (record { order = l.i; quote = l.j; shares = min l.left l.quote.shares }) = cc in (
+    let ticket : c.ticket_of-else-order-quote.result ≡ ticket_of rows quotes (record { order = l.i; quote = l.j; shares = min l.left l.quote.shares }) = cc in (
       quote_ends rows quotes c.args.routed c.args.out.now l.count l.out l.left l.i l.order.rest l.j l.quote.shares l.invariant.0
           c.loop-i-test.true c.if-j-quotes.true l.invariant.3 l.invariant.4
-          c.ticket-of-else-order-quote.result c.put-ticket-count-else-order-quote.result c.put-ticket-count-else-order-quote.new.out c.put-ticket-count-else-order-quote.ensures.count c.put-ticket-count-else-order-quote.ensures.out
-          c.if-order-quote.false c.quote-at-quote-else-order-quote.result.shares (l.left - c.min-tied-else-order-quote.result) ticket (omega arith) shares,
+          c.ticket_of-else-order-quote.result c.put_ticket-count-else-order-quote.result c.put_ticket-count-else-order-quote.new.out c.put_ticket-count-else-order-quote.ensures.count c.put_ticket-count-else-order-quote.ensures.out
+          c.if-order-quote.false c.quote_at-quote-else-order-quote.result.shares (l.left - c.min-tied-else-order-quote.result) ticket (omega arith) shares,
       omega arith,
       omega arith,
       omega arith,

@@ -5,4 +5,4 @@ use Rattle.desk.proofs.depth.Depth.demand.Goals as goal
 pub returns : goal.returns
 returns c =
     let quotes = reach_above c.args.price c.args.self.now.bids in
-    omega (arith, quotes, c.demand-at.ensures.is, c.quoted-to.ensures.is)
+    omega (arith, quotes, c.demand_at.ensures.is, c.quoted_to.ensures.is)

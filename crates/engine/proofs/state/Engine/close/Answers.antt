@@ -14,6 +14,6 @@ returns-in-Some g c =
     let m = g.S.QuoteSource.meaning c.args.source.now in
     let h = held c.args.tables.now in
     record {
-      step = stepped_refused e m h (Close c.args.time c.args.last-sale) (refused e h c.in-Some.refusal) (first_no (close_questions e m c.args.time c.args.last-sale)) c.in-Some.refusal (sym c.close-refusal.ensures ∙ c.in-Some.is) refl;
+      step = stepped_refused e m h (Close c.args.time c.args.last_sale) (refused e h c.in-Some.refusal) (first_no (close_questions e m c.args.time c.args.last_sale)) c.in-Some.refusal (sym c.close_refusal.ensures ∙ c.in-Some.is) refl;
       names = same_self c.args.tables.now;
     }

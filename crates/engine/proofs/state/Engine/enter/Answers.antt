@@ -4,7 +4,7 @@ use Rattle.engine.specs.States.{held}
 use Rattle.engine.specs.Questions.{enter_questions}
 use Rattle.engine.proofs.state.Engine.enter.Goals as goal
 
-pub seat-order-requires : goal.seat-order-requires
-seat-order-requires c =
-    let yes = all_yes (enter_questions c.args.self.now (held c.args.tables.now) c.args.order) (sym c.enter-refusal.ensures ∙ c.in-default.is) in
+pub seat_order-requires : goal.seat_order-requires
+seat_order-requires c =
+    let yes = all_yes (enter_questions c.args.self.now (held c.args.tables.now) c.args.order) (sym c.enter_refusal.ensures ∙ c.in_default.is) in
     record { room = yes.1.1.0; sizes = c.requires.sizes }

@@ -5,12 +5,12 @@ use Rattle.engine.proofs.state.Engine.first_outstanding.Goals as goal
 
 pub overflow-cast-result : goal.overflow-cast-result
 overflow-cast-result c =
-    let few = tickets_few c.args.self.now (held c.args.tables.now) c.if-not-sizes-fit.ensures in
-    let e = ap length c.first-rows-tickets.ensures.rows in
+    let few = tickets_few c.args.self.now (held c.args.tables.now) c.if-not-sizes_fit.ensures in
+    let e = ap length c.first_rows-tickets.ensures.rows in
     omega arith
 
 pub overflow-add-result : goal.overflow-add-result
 overflow-add-result c =
-    let few = tickets_few c.args.self.now (held c.args.tables.now) c.if-not-sizes-fit.ensures in
-    let e = ap length c.first-rows-tickets.ensures.rows in
+    let few = tickets_few c.args.self.now (held c.args.tables.now) c.if-not-sizes_fit.ensures in
+    let e = ap length c.first_rows-tickets.ensures.rows in
     omega arith

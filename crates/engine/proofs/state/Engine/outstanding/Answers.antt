@@ -9,6 +9,6 @@ returns c =
     let e = c.args.self.now in
     let h = held c.args.tables.now in
     record {
-      is = c.first-outstanding.ensures;
-      law = subst (λ r. Outstanding e h r) (sym c.first-outstanding.ensures) (outstanding_law e h);
+      is = c.first_outstanding.ensures;
+      law = subst (λ r. Outstanding e h r) (sym c.first_outstanding.ensures) (outstanding_law e h);
     }

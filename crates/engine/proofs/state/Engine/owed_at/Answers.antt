@@ -17,10 +17,10 @@ returns-in-Buy c =
     let h = held c.args.tables.now in
     let xs = c.args.offers.now in
     let book = book_in e (listed c.args.bids.now c.args.offers.now false) h in
-    let demand : c.demand-at-demand.result ≡ executable Buy book p = c.demand-at-demand.ensures.all (omega (arith, fit.buys, c.first-rows.ensures.within)) ∙ ap (λ l. at_or_above p (rest_levels l)) c.first-rows.ensures.rows in
-    let supply : c.supply-at-supply.result ≡ executable Sell book p = c.supply-at-supply.ensures.all (omega (arith, fit.sells, c.first-rows-2.ensures.within)) ∙ ap (λ l. at_or_below p (rest_levels l)) c.first-rows-2.ensures.rows in
-    c.owed-shares.ensures.all (omega (arith, c.requires.offers))
-    ∙ ap (λ n. owed_of (better c.args.side p xs) (reach c.args.side p xs) n c.supply-at-supply.result) demand
+    let demand : c.demand_at-demand.result ≡ executable Buy book p = c.demand_at-demand.ensures.all (omega (arith, fit.buys, c.first_rows.ensures.within)) ∙ ap (λ l. at_or_above p (rest_levels l)) c.first_rows.ensures.rows in
+    let supply : c.supply_at-supply.result ≡ executable Sell book p = c.supply_at-supply.ensures.all (omega (arith, fit.sells, c.first_rows-2.ensures.within)) ∙ ap (λ l. at_or_below p (rest_levels l)) c.first_rows-2.ensures.rows in
+    c.owed_shares.ensures.all (omega (arith, c.requires.offers))
+    ∙ ap (λ n. owed_of (better c.args.side p xs) (reach c.args.side p xs) n c.supply_at-supply.result) demand
     ∙ ap (λ n. owed_of (better c.args.side p xs) (reach c.args.side p xs) (executable Buy book p) n) supply
     ∙ ap (λ s. owed_of (better s p xs) (reach s p xs) (executable Buy book p) (executable Sell book p)) c.in-Buy.is
     ∙ sym (ap (λ s. owed s book p) c.in-Buy.is)
@@ -33,10 +33,10 @@ returns-in-Sell c =
     let h = held c.args.tables.now in
     let xs = c.args.bids.now in
     let book = book_in e (listed c.args.bids.now c.args.offers.now false) h in
-    let demand : c.demand-at-demand.result ≡ executable Buy book p = c.demand-at-demand.ensures.all (omega (arith, fit.buys, c.first-rows.ensures.within)) ∙ ap (λ l. at_or_above p (rest_levels l)) c.first-rows.ensures.rows in
-    let supply : c.supply-at-supply.result ≡ executable Sell book p = c.supply-at-supply.ensures.all (omega (arith, fit.sells, c.first-rows-2.ensures.within)) ∙ ap (λ l. at_or_below p (rest_levels l)) c.first-rows-2.ensures.rows in
-    c.owed-shares-in-Sell.ensures.all (omega (arith, c.requires.bids))
-    ∙ ap (λ n. owed_of (better c.args.side p xs) (reach c.args.side p xs) n c.demand-at-demand.result) supply
+    let demand : c.demand_at-demand.result ≡ executable Buy book p = c.demand_at-demand.ensures.all (omega (arith, fit.buys, c.first_rows.ensures.within)) ∙ ap (λ l. at_or_above p (rest_levels l)) c.first_rows.ensures.rows in
+    let supply : c.supply_at-supply.result ≡ executable Sell book p = c.supply_at-supply.ensures.all (omega (arith, fit.sells, c.first_rows-2.ensures.within)) ∙ ap (λ l. at_or_below p (rest_levels l)) c.first_rows-2.ensures.rows in
+    c.owed_shares-in-Sell.ensures.all (omega (arith, c.requires.bids))
+    ∙ ap (λ n. owed_of (better c.args.side p xs) (reach c.args.side p xs) n c.demand_at-demand.result) supply
     ∙ ap (λ n. owed_of (better c.args.side p xs) (reach c.args.side p xs) (executable Sell book p) n) demand
     ∙ ap (λ s. owed_of (better s p xs) (reach s p xs) (executable Sell book p) (executable Buy book p)) c.in-Sell.is
     ∙ sym (ap (λ s. owed s book p) c.in-Sell.is)

@@ -13,10 +13,10 @@ pub loop-place-preserved : goal.loop-place-preserved
 loop-place-preserved c =
     let f = level_at c.args.self.now.prices.now c.args.self.now.shares.now in
     let e = below_more f c.args.price c.loop-place.place in
-    let p = c.word-at-at.ensures in
-    let s = c.word-at-shares.ensures in
-    let part = c.shares-to-sum.ensures in
-    (cc, omega (arith, part, part_most (leb c.word-at-at.result c.args.price) c.word-at-shares.result))
+    let p = c.word_at-at.ensures in
+    let s = c.word_at-shares.ensures in
+    let part = c.shares_to-sum.ensures in
+    (cc, omega (arith, part, part_most (leb c.word_at-at.result c.args.price) c.word_at-shares.result))
 
 pub returns : goal.returns
 returns c =

@@ -8,11 +8,11 @@ use Rattle.image.proofs.Lists.{at_counted_more}
 use Rattle.image.proofs.entries.Entries.fit.Goals as goal
 
 -- the answer of the test is that of the entry at its place
-here : (c : goal.Then-not-entry-fits) → level_fits (level_at c.args.self.now.prices.now c.args.self.now.shares.now c.loop-place.place) ≡ false
-here c = let t = c.if-not-entry-fits.ensures in cc
+here : (c : goal.Then-not-entry_fits) → level_fits (level_at c.args.self.now.prices.now c.args.self.now.shares.now c.loop-place.place) ≡ false
+here c = let t = c.if-not-entry_fits.ensures in cc
 
-pub returns-then-not-entry-fits : goal.returns-then-not-entry-fits
-returns-then-not-entry-fits c =
+pub returns-then-not-entry_fits : goal.returns-then-not-entry_fits
+returns-then-not-entry_fits c =
     let ps = c.args.self.now.prices.now in
     let ss = c.args.self.now.shares.now in
     let i = c.loop-place.place in
@@ -25,7 +25,7 @@ loop-place-preserved c =
     let ss = c.args.self.now.shares.now in
     let i = c.loop-place.place in
     let e = at_counted_more (level_at ps ss) (length_in ps ss) i (all_by level_fits) (omega (arith, c.len-place-end.ensures.is)) in
-    let t : true ≡ level_fits (level_at ps ss i) = let t = c.if-not-entry-fits.ensures in cc in
+    let t : true ≡ level_fits (level_at ps ss i) = let t = c.if-not-entry_fits.ensures in cc in
     ap (λ b. b && all_by level_fits (drop (i + 1) (levels_in ps ss))) t ∙ sym e ∙ c.loop-place.invariant
 
 pub returns : goal.returns

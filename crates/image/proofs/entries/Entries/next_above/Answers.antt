@@ -10,8 +10,8 @@ pub loop-place-preserved : goal.loop-place-preserved
 loop-place-preserved c =
     let f = level_at c.args.self.now.prices.now c.args.self.now.shares.now in
     let e = next_more f c.args.price c.loop-place.place in
-    let p = c.word-at.ensures in
-    let s = c.word-at-in-loop-place.ensures in
+    let p = c.word_at.ensures in
+    let s = c.word_at-in-loop-place.ensures in
     cc
 
 pub returns : goal.returns

@@ -3,8 +3,8 @@ use Rattle.market.specs.Venues.{without}
 use Rattle.market.proofs.Slots.{listed_clear, place_facts, by_venue, bids_changed, offers_changed}
 use Rattle.market.proofs.venues.VenueTable.clear.Goals as goal
 
-pub returns-then-not-is-place : goal.returns-then-not-is-place
-returns-then-not-is-place c =
+pub returns-then-not-is_place : goal.returns-then-not-is_place
+returns-then-not-is_place c =
     let t = c.args.self.now in
     record { answer = search rules; market = search rules; refused = search rules; listed = by_venue t.bids t.offers t.halted }
 
@@ -12,7 +12,7 @@ pub returns-then-side-eq1 : goal.returns-then-side-eq1
 returns-then-side-eq1 c =
     let a = c.args in
     let t = a.self.now in
-    let f = place_facts a.venue a.side c.if-not-is-place.ensures in
+    let f = place_facts a.venue a.side c.if-not-is_place.ensures in
     let after = set t.bids (a.venue - 1) (None) in
     record {
       answer = search rules;
@@ -25,7 +25,7 @@ pub returns-else-side-eq1 : goal.returns-else-side-eq1
 returns-else-side-eq1 c =
     let a = c.args in
     let t = a.self.now in
-    let f = place_facts a.venue a.side c.if-not-is-place.ensures in
+    let f = place_facts a.venue a.side c.if-not-is_place.ensures in
     let two : a.side ≡ 2 = omega arith in
     let after = set t.offers (a.venue - 1) (None) in
     record {
