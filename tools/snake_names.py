@@ -87,10 +87,10 @@ def renaming(root):
     return {n: new_name(n) for n in names if new_name(n) != n}, names
 
 
-def turn_line(line, words, table):
+def turn_line(line, words, table, answers):
     def one(m):
         before = m.string[: m.start()]
-        if re.search(r"(?:^|[\s(\[{,;])(?:c|goal|goals|given|w|l|g)\.$", before):
+        if answers and re.search(r"(?:^|[\s(\[{,;])(?:c|goal|w|l|g)\.$", before):
             return m.group(0)
         return table[m.group(0)]
 
@@ -118,7 +118,8 @@ def main(argv):
     n = 0
     for path in files(root, ("specs", "proofs", "src", "must-fail"), (".antt", ".rt", ".edit")):
         text = read(path)
-        after = "\n".join(turn_line(l, words, table) for l in text.split("\n"))
+        answers = path.endswith(("/Answers.antt", "/Choices.antt", "/Invariants.antt"))
+        after = "\n".join(turn_line(l, words, table, answers) for l in text.split("\n"))
         if after != text:
             n += 1
             with open(path, "w", encoding="utf-8") as f:

@@ -121,16 +121,16 @@ module _ (e : Engine) (h : Held) (y : Tally) (good : Good e h y) (ticket filled 
         buys = c.buys;
         sells = c.sells;
         apart = c.apart;
-        bids_are = c.bids-are;
-        offers_are = c.offers-are;
-        no_quotes = c.no-quotes;
-        tickets_used = c.tickets-used ∙ sym as_long;
-        tickets_few = rw as_long c.tickets-few;
+        bids_are = c.bids_are;
+        offers_are = c.offers_are;
+        no_quotes = c.no_quotes;
+        tickets_used = c.tickets_used ∙ sym as_long;
+        tickets_few = rw as_long c.tickets_few;
         tickets_are =
-            ap (λ ts. set ts (ticket - 1) (reported t)) c.tickets-are
+            ap (λ ts. set ts (ticket - 1) (reported t)) c.tickets_are
             ∙ set-append_left y.tickets (replicate (544 - length y.tickets) empty_ticket) (ticket - 1) (reported t) (omega arith)
             ∙ ap (λ n. set y.tickets (ticket - 1) (reported t) ++ replicate (544 - n) empty_ticket) (sym as_long);
-        no_tickets = λ k. ap (λ ts. set ts (ticket - 1) (reported t)) (c.no-tickets k);
+        no_tickets = λ k. ap (λ ts. set ts (ticket - 1) (reported t)) (c.no_tickets k);
         even = c.even;
       }
 

@@ -64,8 +64,8 @@ undecided_priced b ref p n u x =
 
 priced_once : (b : Book) (ref : Option ℕ) (x y : ℕ × ℕ) → Priced b ref x.0 x.1 → Priced b ref y.0 y.1 → x ≡ y
 priced_once b ref (p, n) (q, m) a c =
-    let price : p ≡ q = chosen_once (Candidate b) ref p q a.price_is c.price-is in
-    let count : n ≡ m = a.count_is ∙ ap (count_at b) price ∙ sym c.count-is in
+    let price : p ≡ q = chosen_once (Candidate b) ref p q a.price_is c.price_is in
+    let count : n ≡ m = a.count_is ∙ ap (count_at b) price ∙ sym c.count_is in
     cc
 
 pub snapped_once : (b : Book) (ref : Option ℕ) (x y : Outcome) → Snapped b ref x → Snapped b ref y → x ≡ y
