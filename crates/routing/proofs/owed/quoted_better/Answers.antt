@@ -8,7 +8,7 @@ use Rattle.routing.proofs.owed.quoted_better.Goals as goal
 pub loop-quote-preserved : goal.loop-quote-preserved
 loop-quote-preserved c =
     let e = sum_by_more (better_part c.args.side c.args.price) c.args.quotes.now c.loop-quote.quote-index no_quote c.loop-quote-test.true in
-    (omega (arith, e, c.better_shares.ensures), omega (arith, c.better_shares.ensures, c.better_shares.type-inv))
+    (omega (arith, e, c.better_shares.ensures), omega (arith, c.better_shares.ensures, c.better_shares.type_inv))
 
 pub returns : goal.returns
 returns c =

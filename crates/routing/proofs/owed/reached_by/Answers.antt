@@ -8,7 +8,7 @@ use Rattle.routing.proofs.owed.reached_by.Goals as goal
 pub loop-quote-preserved : goal.loop-quote-preserved
 loop-quote-preserved c =
     let e = sum_by_more (reach_part c.args.side c.args.price) c.args.quotes.now c.loop-quote.quote-index no_quote c.loop-quote-test.true in
-    (omega (arith, e, c.reached_shares.ensures), omega (arith, c.reached_shares.ensures, c.reached_shares.type-inv))
+    (omega (arith, e, c.reached_shares.ensures), omega (arith, c.reached_shares.ensures, c.reached_shares.type_inv))
 
 pub returns : goal.returns
 returns c =

@@ -3,8 +3,8 @@ use Rattle.image.proofs.image.BookImage.read.Goals as goal
 
 pub returns : goal.returns
 returns c =
-    let z = c.in-ok-sizes.sizes in
-    let told = c.in-ok-sizes.ensures in (
+    let z = c.in_ok-sizes.sizes in
+    let told = c.in_ok-sizes.ensures in (
       told.0,
       image-there c.args.bytes.now z.buys z.sells z.bids z.offers told.1 _ _ _ _ _ _ _ _
           (record { prices_are = c.part.ensures.prices; shares_are = c.part.ensures.shares })
