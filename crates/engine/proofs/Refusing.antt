@@ -1,5 +1,5 @@
 -- A call that is refused changes nothing.
-use Rattle.std.proofs.Common.{◌≡◌, true, false, is_ok, Some, None, Ok, Err, Option, sym, refl, ap, ◌∙◌}
+use Rattle.std.proofs.Common.{◌≡◌, true, is_ok, Some, None, Ok, Err, Option, sym, refl, ap, ◌∙◌}
 use Rattle.std.proofs.lemmas.Bool.{false≢true}
 use Rattle.market.specs.declared.refusal.Refusal.{Refusal}
 use Rattle.market.specs.Markets.{Market}

@@ -1,4 +1,3 @@
-use Rattle.std.proofs.Common.{arith}
 use Rattle.routing.specs.Tickets.{empty_ticket}
 use Rattle.engine.proofs.Filling.{put_more, put_all}
 use Rattle.engine.proofs.routes.put_tickets.Goals as goal

@@ -115,24 +115,24 @@ returns-in_default g c =
       names = same_self c.args.tables.now;
     }
 
-pub returns-in_default·2 : goal.returns-in_default·2
-returns-in_default·2 g c =
+pub returns-in_default-2 : goal.returns-in_default-2
+returns-in_default-2 g c =
     let other : stage_fits c.args.call c.args.self.now.stage ≡ false = search rules in
     record {
       called = wrong_stage c.args.self.now (g.S.QuoteSource.meaning c.args.source.now) (held c.args.tables.now) c.args.call (refused c.args.self.now (held c.args.tables.now) WrongStage) (sym c.if-not-sizes_fit.ensures) other refl;
       names = same_self c.args.tables.now;
     }
 
-pub returns-in_default·3 : goal.returns-in_default·3
-returns-in_default·3 g c =
+pub returns-in_default-3 : goal.returns-in_default-3
+returns-in_default-3 g c =
     let other : stage_fits c.args.call c.args.self.now.stage ≡ false = search rules in
     record {
       called = wrong_stage c.args.self.now (g.S.QuoteSource.meaning c.args.source.now) (held c.args.tables.now) c.args.call (refused c.args.self.now (held c.args.tables.now) WrongStage) (sym c.if-not-sizes_fit.ensures) other refl;
       names = same_self c.args.tables.now;
     }
 
-pub returns-in_default·4 : goal.returns-in_default·4
-returns-in_default·4 g c =
+pub returns-in_default-4 : goal.returns-in_default-4
+returns-in_default-4 g c =
     let other : stage_fits c.args.call c.args.self.now.stage ≡ false = search rules in
     record {
       called = wrong_stage c.args.self.now (g.S.QuoteSource.meaning c.args.source.now) (held c.args.tables.now) c.args.call (refused c.args.self.now (held c.args.tables.now) WrongStage) (sym c.if-not-sizes_fit.ensures) other refl;
