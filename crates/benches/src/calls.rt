@@ -1,5 +1,5 @@
-// What the engine's benchmark calls. An engine holds enums, which do not cross to C: so each export makes one, brings it
-// to where the call is measured, and reads the clock before and after that call.
+// What the engine's benchmark calls. An engine holds enums, which do not cross to C: so each export makes one and brings
+// it to where the call is measured. Who calls it reads the clock, and takes off what the same export takes on less.
 ghost use Rattle.std.specs.Prelude.{◌≡◌};
 ghost use Rattle.engine.specs.declared.call.Call.TheVariants.{Enter, Close};
 ghost use Rattle.engine.specs.States.{held, SameTables};
@@ -11,7 +11,6 @@ use engine::call::{Call, Facts};
 use engine::stage::Issue;
 use engine::state::Engine;
 use engine::tables::Tables;
-use libc::types::timespec;
 use market::quote::Quote;
 use market::refusal::Refusal;
 use market::venues::VenueTable;
@@ -39,14 +38,6 @@ pub struct Closed {
     pub price: u32,
     pub count: u64,
     pub tickets: usize,
-}
-
-// When the measured call began, and when it ended.
-#[repr(C)]
-#[derive(Clone, Copy)]
-pub struct Span {
-    pub start: timespec,
-    pub end: timespec,
 }
 
 // When the cycle of a benchmark begins, and how long it takes orders.
@@ -139,40 +130,22 @@ fn take_orders(engine: &mut Engine, orders: &[Sent], venues: &VenueTable, tables
     }
 }
 
-// Takes a call, and notes when it began and ended.
-fn measured(
-    engine: &mut Engine,
-    call: Call,
-    venues: &VenueTable,
-    tables: &mut Tables<'_>,
-    span: &mut Span,
-) -> Result<Answer, Refusal>
-    ensures called { Taken call (held tables.new) result }
-    ensures names { SameTables tables.old tables.new }
-{
-    let _ = libc::clock_gettime(libc::CLOCK_MONOTONIC, &mut span.start);
-    let answer = runs::call(engine, call, venues, tables);
-    let _ = libc::clock_gettime(libc::CLOCK_MONOTONIC, &mut span.end);
-    answer
-}
-
-// Takes orders on an outside market of bids and offers, and then a call that is measured.
-fn measured_after(
+// Takes orders on an outside market of bids and offers, and then a call.
+fn call_after(
     orders: &[Sent],
     venues: &VenueTable,
     call: Call,
     tables: &mut Tables<'_>,
-    span: &mut Span,
 ) -> Result<Answer, Refusal>
     ensures called { Taken call (held tables.new) result }
     ensures names { SameTables tables.old tables.new }
 {
     let mut engine = Engine::new(Issue::Ordinary);
     take_orders(&mut engine, orders, venues, tables);
-    measured(&mut engine, call, venues, tables, span)
+    runs::call(&mut engine, call, venues, tables)
 }
 
-// Takes orders, and measures how the next one is entered; answers its refusal, or 0.
+// Takes orders, and then enters the next one; answers its refusal, or 0.
 #[unsafe(no_mangle)]
 pub extern "C" fn bench_enter<'a>(
     buys: &'a mut [OrderRow],
@@ -184,7 +157,6 @@ pub extern "C" fn bench_enter<'a>(
     offers_quoted: &[Quote],
     orders: &[Sent],
     next: &Sent,
-    span: &mut Span,
 ) -> u32
     ensures { Entered (Enter (order_of next.now)) (lent buys.new sells.new bids.new offers.new tickets.new) result }
 {
@@ -199,10 +171,10 @@ pub extern "C" fn bench_enter<'a>(
     let call = Call::Enter {
         order: order_of(*next),
     };
-    number_of(measured_after(orders, &venues, call, &mut tables, span))
+    number_of(call_after(orders, &venues, call, &mut tables))
 }
 
-// Takes orders, and measures how the cycle is closed.
+// Takes orders, and then closes the cycle.
 #[unsafe(no_mangle)]
 pub extern "C" fn bench_close<'a>(
     buys: &'a mut [OrderRow],
@@ -215,7 +187,6 @@ pub extern "C" fn bench_close<'a>(
     orders: &[Sent],
     last_sale: u32,
     closed: &mut Closed,
-    span: &mut Span,
 )
     ensures { ClosedSo (Close 40000500 last_sale) (lent buys.new sells.new bids.new offers.new tickets.new) closed.new }
 {
@@ -231,5 +202,5 @@ pub extern "C" fn bench_close<'a>(
         time: BEGIN + ACCEPTANCE,
         last_sale,
     };
-    *closed = closed_by(measured_after(orders, &venues, call, &mut tables, span));
+    *closed = closed_by(call_after(orders, &venues, call, &mut tables));
 }

@@ -1,12 +1,13 @@
-// Which refusal a call meets besides the sizes of the tables and the stage: its questions in their order, the first
-// "no" refuses. Those of a begin stand in starting.rt, those of a report in common.rt.
+// Which refusal a call meets: the questions in their order, the first "no" refuses. Those of a begin stand in
+// starting.rt, those of a report in common.rt.
 ghost use Rattle.std.specs.Prelude.{◌≡◌, [], ◌∷◌};
 ghost use Rattle.market.specs.Questions.{first_no};
 ghost use Rattle.market.specs.declared.refusal.Refusal.TheVariants.{TimeRange};
 ghost use Rattle.engine.specs.States.{held};
 ghost use Rattle.engine.specs.Stages.{closes_at, deadline_of};
-ghost use Rattle.engine.specs.Questions.{time_fits, enter_questions, cancel_questions, close_questions, match_questions};
+ghost use Rattle.engine.specs.Questions.{stage_fits, time_fits, enter_questions, cancel_questions, close_questions, match_questions, own_questions, questions};
 
+use crate::call::Call;
 use crate::limits::ORDER_ROWS;
 use crate::stage::Stage;
 use crate::state::Engine;
@@ -16,6 +17,22 @@ use market::limits::HIGHEST_PRICE;
 use market::refusal::Refusal;
 use market::source::QuoteSource;
 use orders::order::{Order, well_formed};
+
+// Whether a call may come in a stage.
+fn stage_fits(call: Call, stage: Stage) -> bool
+    ensures { result ≡ stage_fits call stage }
+{
+    match call {
+        Call::Begin { .. } => stage.is_open(),
+        Call::Enter { .. } => stage.is_acceptance(),
+        Call::Cancel { .. } => stage.is_acceptance(),
+        Call::Close { .. } => stage.is_acceptance(),
+        Call::Report { .. } => stage.is_satisfaction() || stage.is_matched(),
+        Call::Match { .. } => stage.is_satisfaction(),
+        Call::Finish { .. } => stage.is_matched(),
+        Call::Abort { .. } => !stage.is_open(),
+    }
+}
 
 // When acceptance may be closed; 0 in another stage.
 fn closes_at(stage: Stage) -> u32
@@ -113,5 +130,44 @@ impl Engine {
         } else {
             Some(Refusal::TimeRange)
         }
+    }
+
+    // What a call asks besides the sizes of the tables and the stage.
+    fn own_refusal<S: QuoteSource>(
+        &self,
+        call: Call,
+        source: &S,
+        tables: &Tables<'_>,
+    ) -> Option<Refusal>
+        ensures { result ≡ first_no (own_questions self.now (S.meaning source.now) (held tables.now) call) }
+    {
+        match call {
+            Call::Begin { time, order, facts } => self.begin_refusal(source, time, order, facts),
+            Call::Enter { order } => self.enter_refusal(tables, order),
+            Call::Cancel { number } => self.cancel_refusal(tables, number),
+            Call::Close { time, last_sale } => self.close_refusal(source, time, last_sale),
+            Call::Report { ticket, filled } => self.report_refusal(tables, ticket, filled),
+            Call::Match { time } => self.match_refusal(tables, time),
+            Call::Finish { time } => self.time_refusal(time),
+            Call::Abort { time } => self.time_refusal(time),
+        }
+    }
+
+    // The refusal that a call meets; none where it is granted.
+    pub fn refusal<S: QuoteSource>(
+        &self,
+        call: Call,
+        source: &S,
+        tables: &Tables<'_>,
+    ) -> Option<Refusal>
+        ensures { result ≡ first_no (questions self.now (S.meaning source.now) (held tables.now) call) }
+    {
+        if !tables.sizes_fit() {
+            return Some(Refusal::TableSizes);
+        }
+        if !stage_fits(call, self.stage) {
+            return Some(Refusal::WrongStage);
+        }
+        self.own_refusal(call, source, tables)
     }
 }

@@ -5,4 +5,5 @@ pub mod order;
 pub mod rankings;
 pub mod record;
 pub mod row;
+pub mod seat;
 pub mod side;

@@ -12,13 +12,14 @@ use record::{print_book, print_outcome, print_request};
 use report::words::refusal_words;
 use request::Request;
 use std::fs;
+use std::process::ExitCode;
 
 // A refusal as a message, with its number.
 fn refused(rt: &HostRuntime, refusal: Refusal) -> anyhow::Error {
     let number = refusal.number();
     let words = refusal_words(refusal);
     match format!(in rt.alloc(); "refused with {number}: {words}") {
-        Ok(text) => text.into(),
+        Ok(text) => anyhow!(text),
         Err(e) => e.into(),
     }
 }
@@ -46,10 +47,10 @@ fn run(rt: &HostRuntime) -> anyhow::Result<()> {
     Ok(())
 }
 
-fn main(rt: HostRuntime) -> anyhow::Result<()> {
-    let result = run(&rt);
-    if let Err(e) = &result {
+fn main(rt: HostRuntime) -> anyhow::Result<ExitCode> {
+    if let Err(e) = run(&rt) {
         eprintln!(rt; "price_image: {e}")?;
+        return Ok(ExitCode::FAILURE);
     }
-    result
+    Ok(ExitCode::SUCCESS)
 }

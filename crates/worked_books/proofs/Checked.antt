@@ -1,5 +1,5 @@
 -- The table of worked books, settled by computing.
-use Rattle.std.proofs.Common.{◌≡◌, Bool, true, false, ◌&&◌, List, [], ◌∷◌, map, sym, refl, subst}
+use Rattle.std.proofs.Common.{◌≡◌, Bool, true, false, ◌&&◌, List, [], ◌∷◌, map, refl, subst}
 use Rattle.std.specs.List.{AllByRecursion as All}
 use Rattle.std.proofs.lemmas.Bool.{and_parts}
 use Rattle.market.specs.Fits.{all_by}
@@ -7,7 +7,7 @@ use Rattle.pricing.specs.Books.{at_or_above, at_or_below, above, below}
 use Rattle.pricing.specs.Closing.{Outcome, Closing}
 use Rattle.image.specs.Images.{image_book}
 use Rattle.worked_books.specs.Bytes.{image_of, BooksImaged}
-use Rattle.worked_books.specs.Table.{Example, book_of, routed, books, BooksClose, BooksRoute}
+use Rattle.worked_books.specs.Table.{Example, book_of, books, BooksClose, BooksRoute}
 use Rattle.worked_books.proofs.Deciding.{is_sound, is_lowest, low_of, decided, sound_since, lowest_since, decided_right}
 
 -- the book of a row is sound, and its lowest candidate was found
@@ -54,12 +54,9 @@ same_all f g (e ∷ es) same =
     let tail : map f es ≡ map g es = cc in
     (head, same_all f g es tail)
 
-all_routed : map (λ e. routed (book_of e.book) e.outcome) books ≡ map (λ e. e.sent) books
-unfolding at_or_above at_or_below
-all_routed = refl
-
 pub books_route : BooksRoute
-books_route = same_all (λ e. routed (book_of e.book) e.outcome) (λ e. e.sent) books all_routed
+unfolding at_or_above at_or_below
+books_route = refl
 
 pub books_imaged : BooksImaged
 books_imaged = same_all (λ e. image_book (image_of e.book)) (λ e. book_of e.book) books refl

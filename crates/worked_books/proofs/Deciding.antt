@@ -1,6 +1,5 @@
 -- A procedure that settles a close by computing, proved right for the rules.
-use Rattle.std.proofs.Common.{◌≡◌, ℕ, ◌+◌, ◌-◌, ◌%◌, ◌<◌, ◌≤◌, Bool, true, false, cond, ◌&&◌, ◌||◌, eqb, ltb, leb, ◌⊎◌, List, [], ◌∷◌, ◌++◌, map, Some, None, Ok, Err, Option, sym, refl, ap, ◌∙◌, subst, inl, inr, arith}
-use Rattle.std.specs.List.{AllByRecursion as All}
+use Rattle.std.proofs.Common.{◌≡◌, ℕ, ◌+◌, ◌-◌, ◌%◌, ◌<◌, ◌≤◌, Bool, true, false, cond, ◌&&◌, ◌||◌, eqb, ltb, leb, List, [], ◌∷◌, ◌++◌, map, Some, None, Ok, Err, Option, refl, inl, inr, arith}
 use Rattle.std.proofs.lemmas.Bool.{and_parts, or_cases, leb-true, ltb-true, eqb-true, eqb-false, ltb-false, leb-false, cases_lt}
 use Rattle.std.proofs.lemmas.Bool.Decides.{nat_tests}
 use Rattle.market.specs.declared.side.Side.TheVariants.{Buy, Sell}
@@ -10,10 +9,10 @@ use Rattle.market.proofs.Grid.{grid, permitted_since}
 use Rattle.pricing.specs.declared.level.Level.{Level}
 use Rattle.pricing.specs.declared.cause.Cause.TheVariants.{NothingToTrade, LockedOrCrossed, NoReference, Halted}
 use Rattle.pricing.specs.Books.{Book, levels, Standing, Sound, demand_at, supply_at, count_at, wanted_above}
-use Rattle.pricing.specs.Candidates.{Chosen, apart}
+use Rattle.pricing.specs.Candidates.{Chosen}
 use Rattle.pricing.specs.Closing.{Outcome, Closing, Snapped, Orderly, touching, best_on, reference}
 use Rattle.pricing.specs.Ranges.{next_price, nearer_of, Within, Around, Lowest, Highest}
-use Rattle.pricing.proofs.Sides.{wanted_is, buyers_up}
+use Rattle.pricing.proofs.Sides.{buyers_up}
 use Rattle.pricing.proofs.Rows.{lo_le_hi}
 use Rattle.pricing.proofs.Next.{highest_next, highest_same}
 use Rattle.pricing.proofs.Choosing.{only_chosen, choose_low, choose_high, choose_nearer}

@@ -1,4 +1,4 @@
--- The worked books, each with the outcome and the tickets that the rules give it.
+-- The worked books, each with the outcome that the rules give it, and the tickets of their closes.
 use Rattle.std.specs.Prelude.{◌≡◌, ℕ, false, List, [], ◌∷◌, ◌++◌, map, Some, None, Ok, Err, Option, slice_index_or}
 use Rattle.std.specs.List.{AllByRecursion as All}
 use Rattle.market.specs.declared.quote.Quote.{Quote}
@@ -42,33 +42,25 @@ routed b (Err cause) = []
 pub record Example : Type 0 where
   pub book : Worked
   pub outcome : Outcome
-  pub sent : List Ticket
 
--- shares of the buy that are sent to venue 1 at a price
-abbrev bought : ℕ → ℕ → List Ticket
-bought shares price = record { order = 1; venue = 1; price = price; shares = shares; reported = false } ∷ []
+abbrev row : Option Level → Option Level → Option Level → Option Level → ℕ → Outcome → Example
+row buy sell bid offer last outcome =
+    record { book = record { buy = buy; sell = sell; bid = bid; offer = offer; last_sale = last }; outcome = outcome }
 
-abbrev row : Option Level → Option Level → Option Level → Option Level → ℕ → Outcome → List Ticket → Example
-row buy sell bid offer last outcome sent = record {
-  book = record { buy = buy; sell = sell; bid = bid; offer = offer; last_sale = last };
-  outcome = outcome;
-  sent = sent;
-}
-
--- buys, sells, bids, offers, last sale, outcome, tickets
+-- buys, sells, bids, offers, last sale, outcome
 abbrev pub books : List Example
 books =
-    row (at 100 200200) (at 100 200000) None None 200100 (Ok (200100, 100)) []
-    ∷ row (at 100 200200) (at 100 200000) None None 200050 (Ok (200000, 100)) []
-    ∷ row (at 100 200200) (at 100 200000) None None 300000 (Ok (200200, 100)) []
-    ∷ row (at 100 200200) (at 100 200000) (at 100 199800) (at 100 200400) 0 (Ok (200100, 100)) []
-    ∷ row (at 100 200200) (at 100 200000) None None 0 (Err NoReference) []
-    ∷ row (at 100 20000) (at 100 19998) None None 19999 (Ok (19999, 100)) []
-    ∷ row (at 100 199800) (at 100 200000) None None 200000 (Err NothingToTrade) []
-    ∷ row (at 100 200200) None None (at 500 200000) 0 (Ok (200000, 100)) (bought 100 200000)
-    ∷ row (at 300 200400) (at 100 200400) (at 100 199600) (at 150 200000) 0 (Ok (200400, 250)) (bought 150 200000)
-    ∷ row (at 100 200200) (at 50 200000) None None 200000 (Ok (200200, 50)) []
-    ∷ row (at 100 200200) (at 100 200000) (at 100 200000) (at 100 200000) 0 (Err LockedOrCrossed) []
+    row (at 100 200200) (at 100 200000) None None 200100 (Ok (200100, 100))
+    ∷ row (at 100 200200) (at 100 200000) None None 200050 (Ok (200000, 100))
+    ∷ row (at 100 200200) (at 100 200000) None None 300000 (Ok (200200, 100))
+    ∷ row (at 100 200200) (at 100 200000) (at 100 199800) (at 100 200400) 0 (Ok (200100, 100))
+    ∷ row (at 100 200200) (at 100 200000) None None 0 (Err NoReference)
+    ∷ row (at 100 20000) (at 100 19998) None None 19999 (Ok (19999, 100))
+    ∷ row (at 100 199800) (at 100 200000) None None 200000 (Err NothingToTrade)
+    ∷ row (at 100 200200) None None (at 500 200000) 0 (Ok (200000, 100))
+    ∷ row (at 300 200400) (at 100 200400) (at 100 199600) (at 150 200000) 0 (Ok (200400, 250))
+    ∷ row (at 100 200200) (at 50 200000) None None 200000 (Ok (200200, 50))
+    ∷ row (at 100 200200) (at 100 200000) (at 100 200000) (at 100 200000) 0 (Err LockedOrCrossed)
     ∷ []
 
 abbrev pub worked : List Worked
@@ -78,9 +70,17 @@ worked = map (λ e. e.book) books
 abbrev pub BooksClose : Type 0
 BooksClose = All (λ e. Closing false (book_of e.book) e.book.last_sale e.outcome) books
 
--- and the tickets of its row
+-- shares of the buy that are sent to venue 1 at a price
+abbrev bought : ℕ → ℕ → List Ticket
+bought shares price = record { order = 1; venue = 1; price = price; shares = shares; reported = false } ∷ []
+
+-- the tickets of each book, by its place
+abbrev pub sent : List (List Ticket)
+sent = [] ∷ [] ∷ [] ∷ [] ∷ [] ∷ [] ∷ [] ∷ bought 100 200000 ∷ bought 150 200000 ∷ [] ∷ [] ∷ []
+
+-- a close on each book has these tickets
 abbrev pub BooksRoute : Type 0
-BooksRoute = All (λ e. routed (book_of e.book) e.outcome ≡ e.sent) books
+BooksRoute = map (λ e. routed (book_of e.book) e.outcome) books ≡ sent
 
 -- the ticket of a book, where it has one
 abbrev listed : Option Ticket → List Ticket
@@ -88,4 +88,4 @@ listed None = []
 listed (Some t) = t ∷ []
 
 abbrev pub SentAt : ℕ → Option Ticket → Type 0
-SentAt place t = listed t ≡ slice_index_or (map (λ e. e.sent) books) place []
+SentAt place t = listed t ≡ slice_index_or sent place []

@@ -4,12 +4,11 @@
 mod books;
 mod bytes;
 
-use books::{BOOKS, Worked, book_at, ticket_at, worked_books_close};
+use books::{BOOKS, Worked, book_at, worked_books_close};
 use bytes::{Priced, image_of};
 use image::export::snap_price_image;
 use pricing::level::Level;
 use report::numbers::Grouped;
-use routing::ticket::Ticket;
 
 // One entry of a book as it is written: shares at a price.
 fn entry_words(rt: &HostRuntime, entry: Option<Level>) -> anyhow::Result<String> {
@@ -32,23 +31,7 @@ fn outcome_words(rt: &HostRuntime, priced: Priced) -> anyhow::Result<String> {
     Ok(format!(in rt.alloc(); "{price}, count {count}")?)
 }
 
-// Where the shares of a ticket go.
-fn ticket_words(rt: &HostRuntime, sent: Option<Ticket>) -> anyhow::Result<String> {
-    let Some(ticket) = sent else {
-        return Ok(String::new(rt.alloc()));
-    };
-    let shares = ticket.shares;
-    let price = Grouped(u64::from(ticket.price));
-    let venue = ticket.venue;
-    Ok(format!(in rt.alloc(); "  {shares}@{price} at venue {venue}")?)
-}
-
-fn print_book(
-    rt: &HostRuntime,
-    number: usize,
-    worked: Worked,
-    sent: Option<Ticket>,
-) -> anyhow::Result<()> {
+fn print_book(rt: &HostRuntime, number: usize, worked: Worked) -> anyhow::Result<()> {
     let image = image_of(rt.alloc(), worked)?;
     let mut out = [0; 16];
     let refusal = snap_price_image(image.as_slice(), worked.last_sale, &mut out);
@@ -62,24 +45,19 @@ fn print_book(
     } else {
         format!(in rt.alloc(); "refused with {refusal}")?
     };
-    let ticket = ticket_words(rt, sent)?;
-    println!(rt;
-        "{number:>2}  {buy:<12} {sell:<12} {bid:<12} {offer:<12} {last:>8}  {outcome}{ticket}"
-    )?;
+    println!(rt; "{number:>2}  {buy:<12} {sell:<12} {bid:<12} {offer:<12} {last:>8}  {outcome}")?;
     Ok(())
 }
 
 fn main(rt: HostRuntime) -> anyhow::Result<()> {
     let proved = worked_books_close();
     println!(rt;
-        "{proved} worked books, whose outcomes and tickets are proved of the rules, priced by the exported function"
+        "{proved} worked books, whose outcomes are proved of the rules, priced by the exported function"
     )?;
-    println!(rt;
-        "No  buy          sell         bid          offer        last sale  outcome             ticket"
-    )?;
+    println!(rt; "No  buy          sell         bid          offer        last sale  outcome")?;
     for place in 0..BOOKS {
         if let Some(worked) = book_at(place) {
-            print_book(&rt, place + 1, worked, ticket_at(place))?;
+            print_book(&rt, place + 1, worked)?;
         }
     }
     Ok(())
