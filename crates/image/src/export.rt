@@ -28,6 +28,7 @@ pub fn price_image(image: &[u8], last_sale: u32) -> Result<Result<(u32, u64), Ca
 
 // Prices the book in an image, by the last eligible sale, 0 if there is none. Returns 0 and writes price, cause
 // and count to the 16 bytes of the output; or returns the number of a refusal and leaves the output as it stood.
+#[unsafe(no_mangle)]
 pub extern "C" fn snap_price_image(image: &[u8], last_sale: u32, out: &mut [u8]) -> u32
     ensures { ImagePricing image.now last_sale out.old result out.new }
 {
