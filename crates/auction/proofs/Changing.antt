@@ -1,6 +1,6 @@
 -- A change of the order with a number: a cancel, and the report of a ticket.
 use Rattle.std.proofs.Common.{◌≡◌, ℕ, ◌-◌, ◌<◌, ◌≤◌, Bool, true, false, cond, eqb, ltb, List, ◌++◌, length, get_or, take, set, replicate, is_some, Some, None, sym, refl, ap, ◌∙◌, subst, arith}
-use Rattle.std.specs.List.{AllByRecursion as All}
+use Rattle.std.specs.List.{AllByRecursion}
 use Rattle.std.proofs.ByRecursion.{All-get_or}
 use Rattle.std.proofs.lemmas.List.{get_or_append_left, set-append_left, length-set}
 use Rattle.std.proofs.lemmas.Bool.{ltb-true}
@@ -36,7 +36,7 @@ module _ (f : OrderRow → OrderRow) (keeps : Keeps f) (n : ℕ) where
   }
 
   -- the row at the number's place, if it has one, among whole rows with no number twice
-  rows_changed : (rs past : List OrderRow) → Numbers rs → All (λ w. is_whole w ≡ true) rs → (t : Bool) → ltb (before n rs) (length rs) ≡ t
+  rows_changed : (rs past : List OrderRow) → Numbers rs → AllByRecursion (λ w. is_whole w ≡ true) rs → (t : Bool) → ltb (before n rs) (length rs) ≡ t
       → changed_in f (cond t (Some (before n rs)) None) (rs ++ past) ≡ on_number n f rs ++ past
   rows_changed rs past numbers whole true h =
       let k : ℕ = before n rs in

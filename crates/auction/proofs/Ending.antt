@@ -1,6 +1,6 @@
 -- The ends of a cycle, and a close that fixes no price.
 use Rattle.std.proofs.Common.{◌≡◌, ℕ, zero, suc, ◌-◌, true, cond, List, [], ◌∷◌, ◌++◌, map, length, replicate, Err, sym, refl, ap, ◌∙◌}
-use Rattle.std.specs.List.{AllByRecursion as All}
+use Rattle.std.specs.List.{AllByRecursion}
 use Rattle.std.proofs.lemmas.List.{map-append}
 use Rattle.std.proofs.lemmas.Bool.{false≢true}
 use Rattle.ranking.specs.Ranked.{ranked}
@@ -30,7 +30,7 @@ map_replicate : {X : Type 0} (f : X → X) (x : X) → f x ≡ x → (n : ℕ) �
 map_replicate f x is zero = refl
 map_replicate f x is (suc n) = ap (λ y. y ∷ map f (replicate n x)) is ∙ ap (λ ys. x ∷ ys) (map_replicate f x is n)
 
-map_whole : (f : OrderRow → OrderRow) (ws : List OrderRow) → All (λ w. is_whole w ≡ true) ws → map (if_whole f) ws ≡ map f ws
+map_whole : (f : OrderRow → OrderRow) (ws : List OrderRow) → AllByRecursion (λ w. is_whole w ≡ true) ws → map (if_whole f) ws ≡ map f ws
 map_whole f [] a = refl
 map_whole f (w ∷ ws) a = ap (λ b. cond b (f w) w ∷ map (if_whole f) ws) a.0 ∙ ap (λ vs. f w ∷ vs) (map_whole f ws a.1)
 

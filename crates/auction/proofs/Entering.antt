@@ -1,6 +1,6 @@
 -- A begin, and an order that is entered.
 use Rattle.std.proofs.Common.{◌≡◌, ℕ, ◌+◌, ◌-◌, ◌<◌, Bool, true, false, cond, not, eqb, ltb, List, [], ◌∷◌, ◌++◌, length, drop, replicate, is_some, sym, refl, ap, ◌∙◌, arith}
-use Rattle.std.specs.List.{AllByRecursion as All}
+use Rattle.std.specs.List.{AllByRecursion}
 use Rattle.std.proofs.ByRecursion.{All-push}
 use Rattle.std.proofs.lemmas.List.{length_push}
 use Rattle.std.proofs.lemmas.Bool.{and_parts, or_parts, ltb-true}
@@ -55,7 +55,7 @@ side_entered side used rows ws w good room whole' price free =
     }
 
 -- an order on the sells is apart from each buy where it is apart from all of them
-apart_push : (bs ss : List OrderRow) (w : OrderRow) → Free w.number bs → All (λ b. Free b.number ss) bs → All (λ b. Free b.number (ss ++ (w ∷ []))) bs
+apart_push : (bs ss : List OrderRow) (w : OrderRow) → Free w.number bs → AllByRecursion (λ b. Free b.number ss) bs → AllByRecursion (λ b. Free b.number (ss ++ (w ∷ []))) bs
 apart_push [] ss w f a = tt
 apart_push (b ∷ bs) ss w f a = (All-push (λ v. eqb v.number b.number ≡ false) ss w a.0 (other_way b.number w.number f.0), apart_push bs ss w f.1 a.1)
 

@@ -1,6 +1,6 @@
 -- Every call keeps what holds between the engine, its tables and the tally.
 use Rattle.std.proofs.Common.{◌≡◌, ℕ, ◌+◌, ◌-◌, Bool, true, false, eqb, leb, length, get_or, Some, None, Ok, Err, Option, sym, refl, ap, ◌∙◌, subst, inl, inr, arith}
-use Rattle.std.specs.List.{AllByRecursion as All}
+use Rattle.std.specs.List.{AllByRecursion}
 use Rattle.std.proofs.lemmas.Bool.{and_parts, leb-true, not-true, cases_Bool, both_ways, false≢true}
 use Rattle.market.specs.declared.refusal.Refusal.{Refusal}
 use Rattle.market.specs.Markets.{Market}
@@ -63,7 +63,7 @@ pub record CloseGranted (e : Engine) (m : Market) (h : Held) (y : Tally) (last :
   pub closing : Closing m.halted (book_in e m h) last x
 
 module _ (e : Engine) (m : Market) (h : Held) (y : Tally) (kept : Kept e h y) where
-  pub close_granted : (time last : ℕ) (x : Outcome) → All (λ q. q.yes ≡ true) (questions e m h (Close time last)) → PricedBy None e m h (Close time last) x
+  pub close_granted : (time last : ℕ) (x : Outcome) → AllByRecursion (λ q. q.yes ≡ true) (questions e m h (Close time last)) → PricedBy None e m h (Close time last) x
       → CloseGranted e m h y last x
   close_granted time last x all pricing =
       let begun' = begun_by e h y kept (Close time last) all.1.0 refl in
@@ -85,7 +85,7 @@ module _ (e : Engine) (m : Market) (h : Held) (y : Tally) (kept : Kept e h y) wh
   close_kept time last (Err NothingToTrade) g = begun_kept _ _ _ g.begun (unpriced_good e h y g.good time m g.accepting NothingToTrade) (unpriced_out y kept.out m)
   close_kept time last (Err NoReference) g = begun_kept _ _ _ g.begun (unpriced_good e h y g.good time m g.accepting NoReference) (unpriced_out y kept.out m)
 
-  pub report_granted : (ticket filled : ℕ) → All (λ q. q.yes ≡ true) (questions e m h (Report ticket filled)) → ReportGranted y ticket filled
+  pub report_granted : (ticket filled : ℕ) → AllByRecursion (λ q. q.yes ≡ true) (questions e m h (Report ticket filled)) → ReportGranted y ticket filled
   report_granted ticket filled all =
       let are = tickets_in_use e h y (kept.good (begun_by e h y kept (Report ticket filled) all.1.0 refl)) in
       let own = all.1.1 in
@@ -97,7 +97,7 @@ module _ (e : Engine) (m : Market) (h : Held) (y : Tally) (kept : Kept e h y) wh
       }
 
   -- by call, with its questions all answered yes
-  granted_kept : (call : Call) (x : Outcome) → All (λ q. q.yes ≡ true) (questions e m h call) → PricedBy None e m h call x
+  granted_kept : (call : Call) (x : Outcome) → AllByRecursion (λ q. q.yes ≡ true) (questions e m h call) → PricedBy None e m h call x
       → Kept (done e m h call x).engine (done e m h call x).held (fed y m call (done e m h call x).answer)
   granted_kept (Begin time order facts) x all pricing =
       let own = all.1.1 in

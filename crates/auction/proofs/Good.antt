@@ -1,6 +1,6 @@
 -- What the calls keep between the engine, its tables and the tally.
 use Rattle.std.proofs.Common.{◌≡◌, ℕ, ◌≤◌, true, false, eqb, List, [], ◌∷◌, length}
-use Rattle.std.specs.List.{AllByRecursion as All}
+use Rattle.std.specs.List.{AllByRecursion}
 use Rattle.ranking.specs.Ranked.{ranked}
 use Rattle.market.specs.declared.side.Side.{Side}
 use Rattle.market.specs.declared.side.Side.TheVariants.{Buy, Sell}
@@ -20,26 +20,26 @@ use Rattle.auction.specs.Laws.{then_empty, OutOnTickets}
 -- no two orders have one number
 abbrev pub Numbers : List OrderRow → Type 0
 Numbers [] = Unit {0}
-Numbers (w ∷ ws) = All (λ v. eqb v.number w.number ≡ false) ws × Numbers ws
+Numbers (w ∷ ws) = AllByRecursion (λ v. eqb v.number w.number ≡ false) ws × Numbers ws
 
 -- no order has a number
 abbrev pub Free : ℕ → List OrderRow → Type 0
-Free n ws = All (λ w. eqb w.number n ≡ false) ws
+Free n ws = AllByRecursion (λ w. eqb w.number n ≡ false) ws
 
 -- the rows of a side are the tally's orders in rank order, then empty rows
 pub record SideGood (side : Side) (used : ℕ) (rows : List OrderRow) (ws : List OrderRow) : Type 0 where
   pub used_is : used ≡ length ws
   pub within : length ws ≤ 512
   pub rows_is : rows ≡ then_empty 512 empty_row (ranked (ahead_on side) ws)
-  pub whole : All (λ w. is_whole w ≡ true) ws
-  pub priced : All (λ w. Permitted w.price) ws
+  pub whole : AllByRecursion (λ w. is_whole w ≡ true) ws
+  pub priced : AllByRecursion (λ w. Permitted w.price) ws
   pub numbered : Numbers ws
 
 pub record Good (e : Engine) (h : Held) (y : Tally) : Type 0 where
   pub stage_is : e.stage ≡ y.stage
   pub buys : SideGood Buy e.used.buys h.buys y.buys
   pub sells : SideGood Sell e.used.sells h.sells y.sells
-  pub apart : All (λ b. Free b.number y.sells) y.buys
+  pub apart : AllByRecursion (λ b. Free b.number y.sells) y.buys
   pub bids_are : h.bids ≡ then_empty 32 no_quote y.bids
   pub offers_are : h.offers ≡ then_empty 32 no_quote y.offers
   pub no_quotes : is_acceptance e.stage ≡ true → (y.bids ≡ []) × (y.offers ≡ [])
@@ -51,8 +51,8 @@ pub record Good (e : Engine) (h : Held) (y : Tally) : Type 0 where
 
 -- what is out of each order is on its tickets
 pub record Out (y : Tally) : Type 0 where
-  pub buys : All (OutOnTickets y.tickets) y.buys
-  pub sells : All (OutOnTickets y.tickets) y.sells
+  pub buys : AllByRecursion (OutOnTickets y.tickets) y.buys
+  pub sells : AllByRecursion (OutOnTickets y.tickets) y.sells
 
 -- before the first granted begin nothing is known of the tables, and the engine is open
 pub record Kept (e : Engine) (h : Held) (y : Tally) : Type 0 where

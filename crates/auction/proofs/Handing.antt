@@ -1,6 +1,6 @@
 -- Shares handed out over the rows of a side are handed out over its orders, however they are listed.
 use Rattle.std.proofs.Common.{◌≡◌, ℕ, zero, suc, ◌+◌, ◌-◌, ◌<◌, min, Bool, true, cond, List, [], ◌∷◌, ◌++◌, map, length, get_or, replicate, sum_by, sym, refl, ap, ◌∙◌, arith}
-use Rattle.std.specs.List.{AllByRecursion as All}
+use Rattle.std.specs.List.{AllByRecursion}
 use Rattle.std.proofs.lemmas.List.{length-map, get_or-map, ext_get_or}
 use Rattle.std.proofs.ByRecursion.{All-get_or}
 use Rattle.ranking.specs.Ranked.{ranked}
@@ -59,7 +59,7 @@ handed_empty g empty k (suc n) =
     ap (λ w. w ∷ handed g (k - 0) (replicate n empty_row)) (empty k) ∙ ap (λ ws. empty_row ∷ ws) (handed_empty g empty (k - 0) n)
 
 -- among whole rows the shares ahead of one are the rests ahead of it
-available_ahead : (ahead : OrderRow → OrderRow → Bool) (o : OrderRow) (ws : List OrderRow) → All (λ w. is_whole w ≡ true) ws
+available_ahead : (ahead : OrderRow → OrderRow → Bool) (o : OrderRow) (ws : List OrderRow) → AllByRecursion (λ w. is_whole w ≡ true) ws
     → ahead_of ahead available o ws ≡ ahead_of ahead (λ w. w.rest) o ws
 available_ahead ahead o ws all =
     sum_by_same (λ w. is_whole w ≡ true) (λ w. cond (ahead w o) (available w) 0) (λ w. cond (ahead w o) w.rest 0)
@@ -78,7 +78,7 @@ module _ (g : ℕ → OrderRow → OrderRow) (takes : Takes g) (side : Side) (k 
     whole = λ w h. (takes.keeps (share_of side k ws w)).whole w h;
   }
 
-  module _ (whole : All (λ w. is_whole w ≡ true) ws) (numbered : Numbers ws) where
+  module _ (whole : AllByRecursion (λ w. is_whole w ≡ true) ws) (numbered : Numbers ws) where
     handed_row : (i : ℕ) → i < length (ranked (ahead_on side) ws)
         → get_or (handed g k (ranked (ahead_on side) ws)) i empty_row ≡ after (get_or (ranked (ahead_on side) ws) i empty_row)
     handed_row i h =
@@ -111,7 +111,7 @@ module _ (g : ℕ → OrderRow → OrderRow) (takes : Takes g) (side : Side) (k 
       ∙ ap (λ xs. xs ++ past) (handed_mapped good.whole good.numbered))
 
 pub apart_handed : (g : ℕ → OrderRow → OrderRow) → Takes g → (i j : ℕ) (bs ss : List OrderRow)
-    → All (λ b. Free b.number ss) bs → All (λ b. Free b.number (handed_out g Sell j ss)) (handed_out g Buy i bs)
+    → AllByRecursion (λ b. Free b.number ss) bs → AllByRecursion (λ b. Free b.number (handed_out g Sell j ss)) (handed_out g Buy i bs)
 apart_handed g takes i j bs ss apart = apart_mapped _ _ (keeps_after g takes Buy i bs) (keeps_after g takes Sell j ss) bs ss apart
 
 -- no shares to hand out leave all orders as they are

@@ -1,6 +1,6 @@
 -- What holds after every run of calls.
 use Rattle.std.proofs.Common.{◌≡◌, Bool, true, false, List, sym, refl, subst}
-use Rattle.std.specs.List.{AllByRecursion as All}
+use Rattle.std.specs.List.{AllByRecursion}
 use Rattle.std.proofs.ByRecursion.{All-weaker}
 use Rattle.std.proofs.lemmas.Bool.{eqb-true, false≢true}
 use Rattle.orders.specs.declared.row.OrderRow.{OrderRow}
@@ -17,7 +17,7 @@ pub run_kept : {e : Engine} {h : Held} {y : Tally} → History e h y → Kept e 
 run_kept (fresh issue h) = fresh_kept issue h
 run_kept (more m call left run called) = called_kept _ m _ _ (run_kept run) call left called
 
-each_whole : (ws : List OrderRow) → All (λ w. is_whole w ≡ true) ws → All Whole ws
+each_whole : (ws : List OrderRow) → AllByRecursion (λ w. is_whole w ≡ true) ws → AllByRecursion Whole ws
 each_whole ws a = All-weaker (λ w. is_whole w ≡ true) Whole (λ w h. eqb-true _ _ h) ws a
 
 good_standing : (e : Engine) (h : Held) (y : Tally) → Good e h y → Out y → Standing e h y

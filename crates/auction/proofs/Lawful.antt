@@ -1,6 +1,6 @@
 -- Every call of every run is lawful.
 use Rattle.std.proofs.Common.{◌≡◌, ℕ, ◌+◌, true, Some, None, Ok, Err, Option, sym, refl, subst}
-use Rattle.std.specs.List.{AllByRecursion as All}
+use Rattle.std.specs.List.{AllByRecursion}
 use Rattle.market.specs.declared.refusal.Refusal.{Refusal}
 use Rattle.market.specs.Markets.{Market}
 use Rattle.market.specs.Questions.{first_no}
@@ -44,7 +44,7 @@ module _ (e : Engine) (m : Market) (h : Held) (y : Tally) (kept : Kept e h y) wh
   closed_laws time last (Err NoReference) g = best_price_lem last (Err NoReference) g
 
   -- by call, with its questions all answered yes
-  granted_laws : (call : Call) (x : Outcome) → All (λ q. q.yes ≡ true) (questions e m h call) → PricedBy None e m h call x
+  granted_laws : (call : Call) (x : Outcome) → AllByRecursion (λ q. q.yes ≡ true) (questions e m h call) → PricedBy None e m h call x
       → CallLaws y m call (done e m h call x).answer (fed y m call (done e m h call x).answer)
   granted_laws (Begin time order facts) x all pricing = tt
   granted_laws (Enter order) x all pricing = tt

@@ -1,6 +1,6 @@
 -- A change of every row of a side that keeps ranks, numbers and wholeness.
 use Rattle.std.proofs.Common.{◌≡◌, ℕ, ◌-◌, Bool, true, List, [], ◌∷◌, ◌++◌, map, length, replicate, sym, refl, ap, ◌∙◌}
-use Rattle.std.specs.List.{AllByRecursion as All}
+use Rattle.std.specs.List.{AllByRecursion}
 use Rattle.std.proofs.ByRecursion.{All-weaker, All-map}
 use Rattle.std.proofs.lemmas.List.{length-map}
 use Rattle.ranking.specs.Ranked.{ranked}
@@ -46,6 +46,6 @@ module _ (g : OrderRow → OrderRow) (keeps : Keeps g) where
       }
 
 -- each side by a change of its own, and the sides stay apart
-pub apart_mapped : (f g : OrderRow → OrderRow) → Keeps f → Keeps g → (bs ss : List OrderRow) → All (λ b. Free b.number ss) bs → All (λ b. Free b.number (map g ss)) (map f bs)
+pub apart_mapped : (f g : OrderRow → OrderRow) → Keeps f → Keeps g → (bs ss : List OrderRow) → AllByRecursion (λ b. Free b.number ss) bs → AllByRecursion (λ b. Free b.number (map g ss)) (map f bs)
 apart_mapped f g kf kg [] ss a = tt
 apart_mapped f g kf kg (b ∷ bs) ss a = (rw (kf.number b) (free_mapped g kg.number b.number ss a.0), apart_mapped f g kf kg bs ss a.1)

@@ -1,6 +1,6 @@
 -- Orders of which no two have one number.
 use Rattle.std.proofs.Common.{◌≡◌, ℕ, suc, ◌+◌, ◌<◌, ◌≤◌, Bool, true, false, cond, not, eqb, ltb, List, [], ◌∷◌, ◌++◌, map, length, get_or, set, is_some, Some, None, sym, refl, ap, arith}
-use Rattle.std.specs.List.{AllByRecursion as All}
+use Rattle.std.specs.List.{AllByRecursion}
 use Rattle.std.proofs.ByRecursion.{All-push, All-weaker, All-map, All-from_get_or}
 use Rattle.std.proofs.lemmas.Bool.{eqb-true, eqb-false, ne_eqb, ltb-false, not-false}
 use Rattle.ranking.specs.Ranked.{all_pass, placed, ranked_onto, ranked}
@@ -30,11 +30,11 @@ module _ (ahead : OrderRow → OrderRow → Bool) where
     | false ↦ (all_placed ahead w (λ x. eqb x.number v.number ≡ false) vs (other_way v.number w.number f.0) n.0, numbers_placed w vs f.1 n.1)
   ]
 
-  numbers_onto : (vs ws : List OrderRow) → Numbers vs → Numbers ws → All (λ w. Free w.number vs) ws → Numbers (ranked_onto ahead vs ws)
+  numbers_onto : (vs ws : List OrderRow) → Numbers vs → Numbers ws → AllByRecursion (λ w. Free w.number vs) ws → Numbers (ranked_onto ahead vs ws)
   numbers_onto vs [] m n f = m
   numbers_onto vs (w ∷ ws) m n f = numbers_onto (placed ahead w vs) ws (numbers_placed w vs f.0 m) n.1 (free_onto w vs ws n.0 f.1)
     where
-      free_onto : (w : OrderRow) (vs ws : List OrderRow) → All (λ v. eqb v.number w.number ≡ false) ws → All (λ v. Free v.number vs) ws → All (λ v. Free v.number (placed ahead w vs)) ws
+      free_onto : (w : OrderRow) (vs ws : List OrderRow) → AllByRecursion (λ v. eqb v.number w.number ≡ false) ws → AllByRecursion (λ v. Free v.number vs) ws → AllByRecursion (λ v. Free v.number (placed ahead w vs)) ws
       free_onto w vs [] a b = tt
       free_onto w vs (x ∷ xs) a b = (all_placed ahead w (λ v. eqb v.number x.number ≡ false) vs (other_way x.number w.number a.0) b.0, free_onto w vs xs a.1 b.1)
 

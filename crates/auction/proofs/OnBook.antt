@@ -1,6 +1,6 @@
 -- A number that stands on the rows in use of a side, or is free there.
 use Rattle.std.proofs.Common.{◌≡◌, ℕ, Bool, true, false, eqb, ltb, List, length, take, is_some, subst}
-use Rattle.std.specs.List.{AllByRecursion as All}
+use Rattle.std.specs.List.{AllByRecursion}
 use Rattle.std.proofs.ByRecursion.{All-get_or}
 use Rattle.std.proofs.lemmas.Bool.{ltb-true}
 use Rattle.ranking.specs.Ranked.{ranked}
@@ -22,7 +22,7 @@ module _ (n : ℕ) (side : Side) (used : ℕ) (rows ws : List OrderRow) (good : 
   off_book h = all_as_came (ahead_on side) (λ w. eqb w.number n ≡ false) ws (nowhere n (ranked (ahead_on side) ws) (by_place false h))
 
   -- what holds of the number of each order holds of one that stands there
-  pub on_book_lem : (P : ℕ → Type 0) → is_some (place_of n (take used rows)) ≡ true → All (λ w. P w.number) ws → P n
+  pub on_book_lem : (P : ℕ → Type 0) → is_some (place_of n (take used rows)) ≡ true → AllByRecursion (λ w. P w.number) ws → P n
   on_book_lem P h a =
       let rs : List OrderRow = ranked (ahead_on side) ws in
       let lt = ltb-true (before n rs) (length rs) (by_place true h) in

@@ -1,6 +1,6 @@
 -- What is out of an order is on its tickets that are not yet reported.
 use Rattle.std.proofs.Common.{◌≡◌, ℕ, zero, suc, ◌+◌, ◌-◌, ◌<◌, ◌≤◌, min, Bool, true, false, cond, not, ◌&&◌, eqb, List, [], ◌∷◌, ◌++◌, map, length, get_or, set, sum_by, sym, refl, ap, ◌∙◌, subst, inl, inr, arith}
-use Rattle.std.specs.List.{AllByRecursion as All}
+use Rattle.std.specs.List.{AllByRecursion}
 use Rattle.std.proofs.ByRecursion.{All-get_or, All-from_get_or, All-map, All-push, All-weaker}
 use Rattle.std.proofs.lemmas.List.{length-map, get_or-map}
 use Rattle.std.proofs.lemmas.List.Sums.{sum_by-cons, sum_by-append, sum_by-set}
@@ -34,7 +34,7 @@ use Rattle.auction.proofs.Ranking.{apart_on, sorted_on, distinct_on}
 
 -- a change of every order that keeps its number and what is out
 out_mapped : (g : OrderRow → OrderRow) → ((w : OrderRow) → (g w).number ≡ w.number) → ((w : OrderRow) → (g w).out ≡ w.out)
-    → (ts : List Ticket) (ws : List OrderRow) → All (OutOnTickets ts) ws → All (OutOnTickets ts) (map g ws)
+    → (ts : List Ticket) (ws : List OrderRow) → AllByRecursion (OutOnTickets ts) ws → AllByRecursion (OutOnTickets ts) (map g ws)
 out_mapped g number out ts ws a =
     All-map (OutOnTickets ts) g ws
     (All-weaker (OutOnTickets ts) (λ w. OutOnTickets ts (g w)) (λ w h. out w ∙ h ∙ ap (λ n. out_on n ts) (sym (number w))) ws a)
@@ -50,7 +50,7 @@ module _ (y : Tally) (out : Out y) where
   pub cancel_out : (number : ℕ) → Out (changed number with_cancelled y)
   cancel_out n = record { buys = one y.buys out.buys; sells = one y.sells out.sells }
     where
-      one : (ws : List OrderRow) → All (OutOnTickets y.tickets) ws → All (OutOnTickets y.tickets) (on_number n with_cancelled ws)
+      one : (ws : List OrderRow) → AllByRecursion (OutOnTickets y.tickets) ws → AllByRecursion (OutOnTickets y.tickets) (on_number n with_cancelled ws)
       one ws a = out_mapped (λ w. cond (eqb w.number n) (with_cancelled w) w)
           (λ w. elim (eqb w.number n) as (λ b. (cond b (with_cancelled w) w).number ≡ w.number) [ true ↦ refl | false ↦ refl ])
           (λ w. elim (eqb w.number n) as (λ b. (cond b (with_cancelled w) w).out ≡ w.out) [ true ↦ refl | false ↦ refl ]) y.tickets ws a
@@ -123,12 +123,12 @@ module _ (ts : List Ticket) (i : ℕ) (within : i < length ts) (t : Ticket) (is 
             rw (all, some)
         by_test false e = refl
 
-  settled_all : (filled : ℕ) (late : Bool) (ws : List OrderRow) → All (OutOnTickets ts) ws
-      → All (OutOnTickets (set ts i (reported t))) (on_number t.order (with_settled t.shares filled late) ws)
+  settled_all : (filled : ℕ) (late : Bool) (ws : List OrderRow) → AllByRecursion (OutOnTickets ts) ws
+      → AllByRecursion (OutOnTickets (set ts i (reported t))) (on_number t.order (with_settled t.shares filled late) ws)
   settled_all filled late ws a = All-map (OutOnTickets (set ts i (reported t))) (λ w. cond (eqb w.number t.order) (with_settled t.shares filled late w) w) ws
       (All-weaker (OutOnTickets ts) _ (λ w h. settled_out w h filled late) ws a)
 
-  plainly_all : (filled : ℕ) (late : Bool) → filled ≤ t.shares → (ws : List OrderRow) → All (OutOnTickets ts) ws
+  plainly_all : (filled : ℕ) (late : Bool) → filled ≤ t.shares → (ws : List OrderRow) → AllByRecursion (OutOnTickets ts) ws
       → on_number t.order (with_settled t.shares filled late) ws ≡ on_number t.order (settled_row t.shares filled late) ws
   plainly_all filled late fills [] a = refl
   plainly_all filled late fills (w ∷ ws) a =
@@ -167,8 +167,8 @@ same_place (w ∷ ws) n (suc i) zero li lj e =
 same_place (w ∷ ws) n (suc i) (suc j) li lj e = ap suc (same_place ws n.1 i j (omega arith) (omega arith) e)
 
 module _ (k : ℕ) (rows : List OrderRow) (quotes : List Quote) where
-  ties_named : All (λ t. t.order < length rows) (ties k (rests rows) (sizes quotes))
-  ties_named = subst (λ n. All (λ t. t.order < n) (ties k (rests rows) (sizes quotes))) (length-map rows (λ w. w.rest)) (ties_orders k (rests rows) (sizes quotes))
+  ties_named : AllByRecursion (λ t. t.order < length rows) (ties k (rests rows) (sizes quotes))
+  ties_named = subst (λ n. AllByRecursion (λ t. t.order < n) (ties k (rests rows) (sizes quotes))) (length-map rows (λ w. w.rest)) (ties_orders k (rests rows) (sizes quotes))
 
   -- no ticket names a number that no order has
   none_named : (n : ℕ) → Free n rows → out_on n (tickets k rows quotes) ≡ 0
@@ -210,14 +210,14 @@ module _ (side : Side) (k : ℕ) (ws : List OrderRow) (quotes : List Quote) (num
       ∙ walk_allots (ahead_on side) (apart_on side) (λ v. v.rest) rows (sorted_on side ws) (distinct_on side ws numbered) k i empty_row l
       ∙ ap (λ n. min w.rest (k - n)) (sum_ranked (ahead_on side) (λ v. cond (ahead_on side v w) v.rest 0) ws)
 
-  order_shares : All (λ w. out_on w.number (tickets k rows quotes) ≡ share_of side k ws w) ws
+  order_shares : AllByRecursion (λ w. out_on w.number (tickets k rows quotes) ≡ share_of side k ws w) ws
   order_shares = all_as_came (ahead_on side) (λ w. out_on w.number (tickets k rows quotes) ≡ share_of side k ws w) ws
       (All-from_get_or (λ w. out_on w.number (tickets k rows quotes) ≡ share_of side k ws w) rows empty_row ranked_shares)
 
 -- with tickets of the other side, which name none of its orders
-handed_out_lem : (side : Side) (k : ℕ) (ws : List OrderRow) (own ts : List Ticket) → All (OutOnTickets []) ws
-    → All (λ w. out_on w.number own ≡ share_of side k ws w) ws → All (λ w. out_on w.number ts ≡ out_on w.number own) ws
-    → All (OutOnTickets ts) (handed_out with_out side k ws)
+handed_out_lem : (side : Side) (k : ℕ) (ws : List OrderRow) (own ts : List Ticket) → AllByRecursion (OutOnTickets []) ws
+    → AllByRecursion (λ w. out_on w.number own ≡ share_of side k ws w) ws → AllByRecursion (λ w. out_on w.number ts ≡ out_on w.number own) ws
+    → AllByRecursion (OutOnTickets ts) (handed_out with_out side k ws)
 handed_out_lem side k ws own ts none shares same = All-map (OutOnTickets ts) (λ w. with_out (share_of side k ws w) w) ws
     (All-from_get_or (λ w. OutOnTickets ts (with_out (share_of side k ws w) w)) ws empty_row (λ i l.
     let w : OrderRow = get_or ws i empty_row in
@@ -228,7 +228,7 @@ handed_out_lem side k ws own ts none shares same = All-map (OutOnTickets ts) (λ
       All-get_or (λ v. out_on v.number ts ≡ out_on v.number own) ws i empty_row l same,
     )))
 
-apart_too : (bs ss : List OrderRow) → All (λ b. Free b.number ss) bs → All (λ s. Free s.number bs) ss
+apart_too : (bs ss : List OrderRow) → AllByRecursion (λ b. Free b.number ss) bs → AllByRecursion (λ s. Free s.number bs) ss
 apart_too bs ss apart = All-from_get_or (λ s. Free s.number bs) ss empty_row (λ i l. All-from_get_or _ bs empty_row (λ j k.
     other_way _ _ (All-get_or (λ s. eqb s.number (get_or bs j empty_row).number ≡ false) ss i empty_row l (All-get_or (λ b. Free b.number ss) bs j empty_row k apart))))
 
@@ -237,7 +237,7 @@ total_sizes [] = refl
 total_sizes (x ∷ xs) = omega (arith, sum_by-cons (λ v. v.shares) x xs, total_sizes xs)
 
 module _ (y : Tally) (out : Out y) (none : y.tickets ≡ []) (buys-numbered : Numbers y.buys) (sells-numbered : Numbers y.sells)
-    (apart : All (λ b. Free b.number y.sells) y.buys) (m : Market) (p : ℕ) where
+    (apart : AllByRecursion (λ b. Free b.number y.sells) y.buys) (m : Market) (p : ℕ) where
   buys_enough : owed Buy (book_by y m) p ≤ total (sizes (ranked_offers m))
   buys_enough = omega (arith, total_sizes (ranked_offers m), sum_ranked (quote_ahead lower) (λ x. x.shares) m.offers, owed_quoted Buy p (executable Buy (book_by y m) p) (executable Sell (book_by y m) p) m.offers)
 
@@ -252,14 +252,14 @@ module _ (y : Tally) (out : Out y) (none : y.tickets ≡ []) (buys-numbered : Nu
 
   pub routed_out : (deadline : ℕ) → Out (routed p deadline m y)
   routed_out deadline = record {
-    buys = handed_out_lem Buy (owed Buy (book_by y m) p) y.buys (tickets_by Buy y m p) ts (subst (λ us. All (OutOnTickets us) y.buys) none out.buys)
+    buys = handed_out_lem Buy (owed Buy (book_by y m) p) y.buys (tickets_by Buy y m p) ts (subst (λ us. AllByRecursion (OutOnTickets us) y.buys) none out.buys)
         (order_shares Buy (owed Buy (book_by y m) p) y.buys (ranked_offers m) buys-numbered buys_enough)
         (All-weaker (λ b. Free b.number y.sells) _ (λ b free. omega (
           arith,
           on_both b.number,
           none_named (owed Sell (book_by y m) p) (ranked (ahead_on Sell) y.sells) (ranked_bids m) b.number (all_ranked (ahead_on Sell) (λ s. eqb s.number b.number ≡ false) y.sells free),
         )) y.buys apart);
-    sells = handed_out_lem Sell (owed Sell (book_by y m) p) y.sells (tickets_by Sell y m p) ts (subst (λ us. All (OutOnTickets us) y.sells) none out.sells)
+    sells = handed_out_lem Sell (owed Sell (book_by y m) p) y.sells (tickets_by Sell y m p) ts (subst (λ us. AllByRecursion (OutOnTickets us) y.sells) none out.sells)
         (order_shares Sell (owed Sell (book_by y m) p) y.sells (ranked_bids m) sells-numbered sells_enough)
         (All-weaker (λ s. Free s.number y.buys) _ (λ s free. omega (
           arith,

@@ -1,6 +1,6 @@
 -- What rests on a side: in its rows and in the tally's orders alike, and after shares were handed out.
 use Rattle.std.proofs.Common.{◌≡◌, ℕ, zero, suc, ◌+◌, ◌-◌, ◌≤◌, min, Bool, true, cond, leb, List, [], ◌∷◌, map, length, replicate, sum_by, sym, refl, ap, ◌∙◌, arith}
-use Rattle.std.specs.List.{AllByRecursion as All}
+use Rattle.std.specs.List.{AllByRecursion}
 use Rattle.std.proofs.lemmas.List.Sums.{sum_by-cons, sum_by-append}
 use Rattle.std.proofs.lemmas.Bool.Decides.{nat_tests}
 use Rattle.ranking.specs.Ranked.{ranked}
@@ -69,11 +69,11 @@ sum_left g takes h most (w ∷ ws) =
     let f : OrderRow → OrderRow = λ v. g (h v) v in
     omega (arith, sum_by-cons R (f w) (map f ws), sum_by-cons h w ws, sum_by-cons R w ws, takes.rest (h w) w, most w, sum_left g takes h most ws)
 
-sum_available : (ws : List OrderRow) → All (λ w. is_whole w ≡ true) ws → sum_by available ws ≡ sum_by (λ w. w.rest) ws
+sum_available : (ws : List OrderRow) → AllByRecursion (λ w. is_whole w ≡ true) ws → sum_by available ws ≡ sum_by (λ w. w.rest) ws
 sum_available ws all = sum_by_same (λ w. is_whole w ≡ true) available (λ w. w.rest) (λ w h. ap (λ t. cond t w.rest 0) h) ws all
 
 -- of k shares as many are handed out as rest, at most k
-pub shares_sum : (side : Side) (k : ℕ) (ws : List OrderRow) → All (λ w. is_whole w ≡ true) ws → Numbers ws
+pub shares_sum : (side : Side) (k : ℕ) (ws : List OrderRow) → AllByRecursion (λ w. is_whole w ≡ true) ws → Numbers ws
     → sum_by (share_of side k ws) ws ≡ min k (sum_by (λ w. w.rest) ws)
 shares_sum side k ws whole numbered =
     let R : OrderRow → ℕ = λ w. w.rest in

@@ -1,6 +1,6 @@
 -- What ties take of the quotes that pass a test; of better quotes, which rank first, all of it.
 use Rattle.std.proofs.Common.{◌≡◌, ℕ, zero, suc, ◌+◌, ◌<◌, ◌≤◌, Bool, true, false, cond, List, [], ◌∷◌, length, get_or, sum_by, sym, refl, ap, ◌∙◌, inl, inr, arith}
-use Rattle.std.specs.List.{AllByRecursion as All}
+use Rattle.std.specs.List.{AllByRecursion}
 use Rattle.std.proofs.ByRecursion.{All-weaker}
 use Rattle.std.proofs.lemmas.List.Sums.{sum_by-cons, sum_by-append}
 use Rattle.std.proofs.lemmas.Bool.{cases_Bool, both_ways, cond-true, cond-false}
@@ -88,7 +88,7 @@ module _ (passes : Quote → Bool) where
     )
 
   -- none passes
-  none_taken : (n a : ℕ) (rs : List ℕ) (b : ℕ) (xs : List Quote) → All (λ x. passes x ≡ false) xs
+  none_taken : (n a : ℕ) (rs : List ℕ) (b : ℕ) (xs : List Quote) → AllByRecursion (λ x. passes x ≡ false) xs
       → taken n a rs b xs ≡ sum_by (λ x. cond (passes x) x.shares 0) xs
   none_taken n a rs b [] none = refl
   none_taken n a rs b (x ∷ xs) none = omega (

@@ -1,6 +1,6 @@
 -- A close that fixes a price tickets every better quote whole.
 use Rattle.std.proofs.Common.{◌≡◌, ℕ, ◌+◌, ◌<◌, ◌≤◌, Bool, true, false, cond, ◌&&◌, eqb, ltb, leb, List, [], ◌∷◌, ◌++◌, length, get_or, Ok, sum_by, sym, refl, ap, ◌∙◌, subst, inl, inr, arith}
-use Rattle.std.specs.List.{AllByRecursion as All}
+use Rattle.std.specs.List.{AllByRecursion}
 use Rattle.std.proofs.ByRecursion.{All-get_or, All-from_get_or}
 use Rattle.std.proofs.lemmas.List.Sums.{sum_by-cons, sum_by-append, get_or-le-sum_by}
 use Rattle.std.proofs.lemmas.Bool.{and_parts, eqb-true, leb-true, cases_lt, cond-true}
@@ -93,7 +93,7 @@ side_whole side p n rows xs enough all x t =
     ∙ sum_ranked ahead (λ y. cond (here y) y.shares 0) xs
 
 -- quotes that fit have shares
-quotes_shares : (xs : List Quote) → all_by quote_fits xs ≡ true → All (λ x. 1 ≤ x.shares) xs
+quotes_shares : (xs : List Quote) → all_by quote_fits xs ≡ true → AllByRecursion (λ x. 1 ≤ x.shares) xs
 quotes_shares [] h = tt
 quotes_shares (x ∷ xs) h =
     let both = and_parts (quote_fits x) (all_by quote_fits xs) h in

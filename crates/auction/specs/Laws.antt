@@ -1,6 +1,6 @@
 -- What holds after every call of every run, in terms of the tally before and after it.
 use Rattle.std.specs.Prelude.{◌≡◌, ℕ, ◌+◌, ◌-◌, ◌<◌, Bool, true, cond, not, ◌&&◌, ◌⊎◌, List, ◌++◌, length, get_or, replicate, Ok, Err, sum_by, Result, ◌==◌, nat_lt, slice_index_or}
-use Rattle.std.specs.List.{AllByRecursion as All}
+use Rattle.std.specs.List.{AllByRecursion}
 use Rattle.ranking.specs.Ranked.{ranked}
 use Rattle.market.specs.declared.quote.Quote.{Quote}
 use Rattle.market.specs.declared.refusal.Refusal.{Refusal}
@@ -54,8 +54,8 @@ quoted_at venue price xs = sum_by (λ x. cond (x.venue == venue && x.price == pr
 
 -- every quote that is better than the price is ticketed whole
 pub record TicketedWhole (price : ℕ) (m : Market) (ts : List Ticket) : Type 0 where
-  pub offers : All (λ x. nat_lt x.price price ≡ true → on_tickets x.venue x.price ts ≡ quoted_at x.venue x.price m.offers) m.offers
-  pub bids : All (λ x. nat_lt price x.price ≡ true → on_tickets x.venue x.price ts ≡ quoted_at x.venue x.price m.bids) m.bids
+  pub offers : AllByRecursion (λ x. nat_lt x.price price ≡ true → on_tickets x.venue x.price ts ≡ quoted_at x.venue x.price m.offers) m.offers
+  pub bids : AllByRecursion (λ x. nat_lt price x.price ≡ true → on_tickets x.venue x.price ts ≡ quoted_at x.venue x.price m.bids) m.bids
 
 -- the shares of an order's tickets that are not yet reported
 abbrev pub out_on : ℕ → List Ticket → ℕ
@@ -131,8 +131,8 @@ OutOnTickets ts w = w.out ≡ out_on w.number ts
 -- what holds after each call
 pub record Standing (e : Engine) (h : Held) (y : Tally) : Type 0 where
   pub tables : y.begun ≡ true → TablesTally e h y
-  pub buys_whole : All Whole y.buys
-  pub sells_whole : All Whole y.sells
-  pub buys_out : All (OutOnTickets y.tickets) y.buys
-  pub sells_out : All (OutOnTickets y.tickets) y.sells
+  pub buys_whole : AllByRecursion Whole y.buys
+  pub sells_whole : AllByRecursion Whole y.sells
+  pub buys_out : AllByRecursion (OutOnTickets y.tickets) y.buys
+  pub sells_out : AllByRecursion (OutOnTickets y.tickets) y.sells
   pub even : y.bought ≡ y.sold

@@ -1,6 +1,6 @@
 -- No call changes how many rows a table has.
 use Rattle.std.proofs.Common.{◌≡◌, ℕ, ◌<◌, ◌≤◌, Bool, true, false, cond, ◌&&◌, eqb, ltb, List, length, is_some, Some, None, Ok, Err, Option, sym, refl, ◌∙◌, subst, arith}
-use Rattle.std.specs.List.{AllByRecursion as All}
+use Rattle.std.specs.List.{AllByRecursion}
 use Rattle.std.proofs.lemmas.List.{length-append, length-take, length-drop, length-set, length-replicate, length-map}
 use Rattle.std.proofs.lemmas.Bool.{and_parts, eqb-true, ltb-true, cond_both}
 use Rattle.ranking.proofs.Insertion.{length_placed}
@@ -156,7 +156,7 @@ module _ (e : Engine) (m : Market) (h : Held) (long : Sizes h) (fit : quotes_fit
   close_sizes time (Err NoReference) = quotes_sizes
 
 module _ (e : Engine) (m : Market) (h : Held) where
-  granted_sizes : (call : Call) (x : Outcome) → All (λ q. q.yes ≡ true) (questions e m h call) → SameSizes (done e m h call x).held h
+  granted_sizes : (call : Call) (x : Outcome) → AllByRecursion (λ q. q.yes ≡ true) (questions e m h call) → SameSizes (done e m h call x).held h
   granted_sizes (Begin time order facts) x all =
       let long = sizes h all.0 in
       let none = emptied_sizes h in

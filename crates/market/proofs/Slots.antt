@@ -1,6 +1,6 @@
 -- The list of a table's slots: a loop's steps, what a write to a slot does, and that it goes by venue.
 use Rattle.std.proofs.Common.{◌≡◌, ℕ, zero, suc, ◌+◌, ◌-◌, ◌<◌, ◌≤◌, Bool, true, ◌&&◌, leb, List, [], ◌∷◌, length, get_or, drop, set, Some, None, Option, sym, refl, ap, ◌∙◌, arith}
-use Rattle.std.specs.List.{slice_get, AllByRecursion as All}
+use Rattle.std.specs.List.{slice_get, AllByRecursion}
 use Rattle.std.proofs.lemmas.Bool.{le-ltb, lt-ltb, eq-eqb, ne_eqb, and_parts, leb-true}
 use Rattle.std.proofs.lemmas.List.{at_drop_more, at_drop_all}
 use Rattle.std.proofs.ByRecursion.{All-weaker}
@@ -69,7 +69,7 @@ abbrev slots_market : List (Option Mark) → List (Option Mark) → Bool → Mar
 slots_market bids offers halted = record { bids = listed 1 bids; offers = listed 1 offers; halted = halted }
 
 -- the list goes by rising venue
-listed_from : (v : ℕ) (slots : List (Option Mark)) → All (λ x. v ≤ x.venue) (listed v slots)
+listed_from : (v : ℕ) (slots : List (Option Mark)) → AllByRecursion (λ x. v ≤ x.venue) (listed v slots)
 listed_from v [] = tt
 listed_from v (None ∷ slots) = All-weaker (λ x. v + 1 ≤ x.venue) (λ x. v ≤ x.venue) (λ x h. omega arith) (listed (v + 1) slots) (listed_from (v + 1) slots)
 listed_from v (Some m ∷ slots) = (omega arith, All-weaker (λ x. v + 1 ≤ x.venue) (λ x. v ≤ x.venue) (λ x h. omega arith) (listed (v + 1) slots) (listed_from (v + 1) slots))

@@ -1,6 +1,6 @@
 -- What a table of venues means, and what venues do to it.
 use Rattle.std.specs.Prelude.{ℕ, ◌+◌, ◌<◌, Bool, cond, ◌&&◌, List, [], ◌∷◌, Some, None, Ok, Err, Option, Result, ◌==◌, nat_le, nat_lt}
-use Rattle.std.specs.List.{AllByRecursion as All}
+use Rattle.std.specs.List.{AllByRecursion}
 use Rattle.market.specs.Limits.{venues}
 use Rattle.market.specs.Prices.{fits}
 use Rattle.market.specs.Markets.{Market}
@@ -60,7 +60,7 @@ after_clear granted venue side m = changed granted side (without venue) m
 -- quotes by rising venue, so at most one for each
 abbrev pub Rising : List Quote → Type 0
 Rising [] = Unit {0}
-Rising (x ∷ xs) = All (λ y. x.venue < y.venue) xs × Rising xs
+Rising (x ∷ xs) = AllByRecursion (λ y. x.venue < y.venue) xs × Rising xs
 
 pub record ByVenue (m : Market) : Type 0 where
   pub bids_rise : Rising m.bids

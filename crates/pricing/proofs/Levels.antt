@@ -1,6 +1,6 @@
 -- Sums over shares at prices: how they move with the price.
 use Rattle.std.proofs.Common.{◌≡◌, ℕ, ◌+◌, ◌-◌, ◌<◌, ◌≤◌, cond, ltb, leb, ◌⊎◌, List, [], ◌∷◌, map, sum_by, refl, ap, ◌∙◌, arith}
-use Rattle.std.specs.List.{AllByRecursion as All}
+use Rattle.std.specs.List.{AllByRecursion}
 use Rattle.std.proofs.lemmas.List.Sums.{sum_by-cons}
 use Rattle.std.proofs.lemmas.Bool.Decides.{nat_tests}
 use Rattle.market.proofs.Grid.{grid}
@@ -14,7 +14,7 @@ sum_by_mono f g h [] = omega arith
 sum_by_mono f g h (x ∷ xs) = omega (arith, sum_by-cons f x xs, sum_by-cons g x xs, h x, sum_by_mono f g h xs)
 
 -- a sum is the same where each part is, of elements that P holds of
-pub sum_by_same : {X : Type 0} (P : X → Type 0) (f g : X → ℕ) → ((x : X) → P x → f x ≡ g x) → (xs : List X) → All P xs → sum_by f xs ≡ sum_by g xs
+pub sum_by_same : {X : Type 0} (P : X → Type 0) (f g : X → ℕ) → ((x : X) → P x → f x ≡ g x) → (xs : List X) → AllByRecursion P xs → sum_by f xs ≡ sum_by g xs
 sum_by_same P f g h [] a = refl
 sum_by_same P f g h (x ∷ xs) a = omega (arith, sum_by-cons f x xs, sum_by-cons g x xs, h x a.0, sum_by_same P f g h xs a.1)
 
@@ -22,7 +22,7 @@ sum_by_each : {X : Type 0} (f g : X → ℕ) → ((x : X) → f x ≡ g x) → (
 sum_by_each f g h [] = refl
 sum_by_each f g h (x ∷ xs) = omega (arith, sum_by-cons f x xs, sum_by-cons g x xs, h x, sum_by_each f g h xs)
 
-pub sum_by_none : {X : Type 0} (P : X → Type 0) (f : X → ℕ) → ((x : X) → P x → f x ≡ 0) → (xs : List X) → All P xs → sum_by f xs ≡ 0
+pub sum_by_none : {X : Type 0} (P : X → Type 0) (f : X → ℕ) → ((x : X) → P x → f x ≡ 0) → (xs : List X) → AllByRecursion P xs → sum_by f xs ≡ 0
 sum_by_none P f h [] a = refl
 sum_by_none P f h (x ∷ xs) a = omega (arith, sum_by-cons f x xs, h x a.0, sum_by_none P f h xs a.1)
 

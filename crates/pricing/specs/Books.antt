@@ -1,6 +1,6 @@
 -- What stands in a book, and how many shares would meet at a price.
 use Rattle.std.specs.Prelude.{ℕ, ◌+◌, min, cond, List, map, sum_by, nat_le, nat_lt}
-use Rattle.std.specs.List.{AllByRecursion as All}
+use Rattle.std.specs.List.{AllByRecursion}
 use Rattle.market.specs.declared.quote.Quote.{Quote}
 use Rattle.market.specs.Prices.{Permitted}
 use Rattle.pricing.specs.declared.level.Level.{Level}
@@ -50,7 +50,7 @@ offered_below b q = below q b.sells + below q (levels b.offers)
 
 -- everything in the book stands at a permitted price
 abbrev pub Standing : List Level → Type 0
-Standing ls = All (λ l. Permitted l.price) ls
+Standing ls = AllByRecursion (λ l. Permitted l.price) ls
 
 pub record Sound (b : Book) : Type 0 where
   pub buys : Standing b.buys

@@ -1,6 +1,6 @@
 -- In a ranked list with no two level entries, what stands before an entry is what is ahead of it.
 use Rattle.std.proofs.Common.{◌≡◌, ℕ, zero, suc, ◌+◌, ◌-◌, ◌<◌, ◌≤◌, min, Bool, true, false, cond, List, [], ◌∷◌, map, length, get_or, sym, refl, ap, ◌∙◌, inl, inr, arith}
-use Rattle.std.specs.List.{AllByRecursion as All}
+use Rattle.std.specs.List.{AllByRecursion}
 use Rattle.std.proofs.lemmas.List.Sums.{sum_by-cons}
 use Rattle.std.proofs.ByRecursion.{All-get_or}
 use Rattle.std.proofs.lemmas.Bool.{cases_Bool, cond-true, cond-false}
@@ -23,7 +23,7 @@ module _ {E : Type 0} (ahead : E → E → Bool) (size : E → ℕ) (apart : (a 
   not_itself x = elim (cases_Bool (ahead x x)) [ inl t ↦ apart x x t | inr f ↦ f ]
 
   -- no entry behind o counts
-  none_ahead : (o : E) (xs : List E) → All (λ y. ahead y o ≡ false) xs → ahead_of ahead size o xs ≡ 0
+  none_ahead : (o : E) (xs : List E) → AllByRecursion (λ y. ahead y o ≡ false) xs → ahead_of ahead size o xs ≡ 0
   none_ahead o [] h = refl
   none_ahead o (x ∷ xs) h = omega (arith, sum_by-cons (λ y. cond (ahead y o) (size y) 0) x xs, cond-false (ahead x o) (size x) 0 h.0, none_ahead o xs h.1)
 

@@ -1,6 +1,6 @@
 -- What the ties of one order, and of one quote, come to.
 use Rattle.std.proofs.Common.{◌≡◌, ℕ, zero, suc, ◌+◌, ◌<◌, List, [], ◌∷◌, ◌++◌, length, get_or, refl, ap, ◌∙◌, arith}
-use Rattle.std.specs.List.{AllByRecursion as All}
+use Rattle.std.specs.List.{AllByRecursion}
 use Rattle.std.proofs.ByRecursion.{All-append, All-weaker}
 use Rattle.std.proofs.lemmas.Bool.{eq-eqb, ne_eqb}
 use Rattle.routing.specs.Shares.{Tie, start, cell, across, down, put, line, lines, ties, of_order, of_quote}
@@ -74,23 +74,23 @@ order_lines (suc d) k n i a (r ∷ rs) j b ss e h =
     )
 
 -- every tie is one of the orders'
-put_all : (P : Tie → Type 0) (i j c : ℕ) (ts : List Tie) → ((s : ℕ) → P (record { order = i; quote = j; shares = s })) → All P ts → All P (put i j c ts)
+put_all : (P : Tie → Type 0) (i j c : ℕ) (ts : List Tie) → ((s : ℕ) → P (record { order = i; quote = j; shares = s })) → AllByRecursion P ts → AllByRecursion P (put i j c ts)
 put_all P i j zero ts h a = a
 put_all P i j (suc c) ts h a = (h (suc c), a)
 
-line_orders : (n i a r j b : ℕ) (ss : List ℕ) → All (λ t. t.order ≡ i) (line n i a r j b ss)
+line_orders : (n i a r j b : ℕ) (ss : List ℕ) → AllByRecursion (λ t. t.order ≡ i) (line n i a r j b ss)
 line_orders n i a r j b [] = tt
 line_orders n i a r j b (s ∷ ss) =
     put_all (λ t. t.order ≡ i) i j (cell n a r b s) (line n i a r (j + 1) (b + s) ss) (λ _. refl) (line_orders n i a r (j + 1) (b + s) ss)
 
-lines_orders : (n i a : ℕ) (rs : List ℕ) (j b : ℕ) (ss : List ℕ) → All (λ t. t.order < i + length rs) (lines n i a rs j b ss)
+lines_orders : (n i a : ℕ) (rs : List ℕ) (j b : ℕ) (ss : List ℕ) → AllByRecursion (λ t. t.order < i + length rs) (lines n i a rs j b ss)
 lines_orders n i a [] j b ss = tt
 lines_orders n i a (r ∷ rs) j b ss =
     All-append (λ t. t.order < i + length (r ∷ rs)) (line n i a r j b ss) (lines n (i + 1) (a + r) rs j b ss)
     (All-weaker (λ t. t.order ≡ i) (λ t. t.order < i + length (r ∷ rs)) (λ t h. omega arith) (line n i a r j b ss) (line_orders n i a r j b ss))
     (All-weaker (λ t. t.order < (i + 1) + length rs) (λ t. t.order < i + length (r ∷ rs)) (λ t h. omega arith) (lines n (i + 1) (a + r) rs j b ss) (lines_orders n (i + 1) (a + r) rs j b ss))
 
-pub ties_orders : (n : ℕ) (rs ss : List ℕ) → All (λ t. t.order < length rs) (ties n rs ss)
+pub ties_orders : (n : ℕ) (rs ss : List ℕ) → AllByRecursion (λ t. t.order < length rs) (ties n rs ss)
 ties_orders n rs ss =
     All-weaker (λ t. t.order < 0 + length rs) (λ t. t.order < length rs) (λ t h. omega arith) (ties n rs ss) (lines_orders n 0 0 rs 0 0 ss)
 

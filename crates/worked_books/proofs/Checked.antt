@@ -1,6 +1,6 @@
 -- The table of worked books, settled by computing.
 use Rattle.std.proofs.Common.{◌≡◌, Bool, true, false, ◌&&◌, List, [], ◌∷◌, map, refl, subst}
-use Rattle.std.specs.List.{AllByRecursion as All}
+use Rattle.std.specs.List.{AllByRecursion}
 use Rattle.std.proofs.lemmas.Bool.{and_parts}
 use Rattle.market.specs.Fits.{all_by}
 use Rattle.pricing.specs.Books.{at_or_above, at_or_below, above, below}
@@ -27,7 +27,7 @@ closes e ok same =
     let right = decided_right b (sound_since b parts.0) (low_of b) (lowest_since b (low_of b) parts.1) e.book.last_sale in
     subst (λ x. Closing false b e.book.last_sale x) same right
 
-close_all : (es : List Example) → all_by passes es ≡ true → map answer es ≡ map (λ e. e.outcome) es → All Closes es
+close_all : (es : List Example) → all_by passes es ≡ true → map answer es ≡ map (λ e. e.outcome) es → AllByRecursion Closes es
 close_all [] ok same = tt
 close_all (e ∷ es) ok same =
     let parts = and_parts (passes e) (all_by passes es) ok in
@@ -47,7 +47,7 @@ pub books_close : BooksClose
 books_close = close_all books all_pass_lem all_answered
 
 -- what is the same of every row
-same_all : {A : Type 0} (f g : Example → A) (es : List Example) → map f es ≡ map g es → All (λ e. f e ≡ g e) es
+same_all : {A : Type 0} (f g : Example → A) (es : List Example) → map f es ≡ map g es → AllByRecursion (λ e. f e ≡ g e) es
 same_all f g [] same = tt
 same_all f g (e ∷ es) same =
     let head : f e ≡ g e = cc in

@@ -1,6 +1,6 @@
 -- The image of a worked book, and an answer that is read back.
 use Rattle.std.specs.Prelude.{◌≡◌, ℕ, ◌+◌, ◌*◌, List, [], ◌∷◌, ◌++◌, Some, None, Option}
-use Rattle.std.specs.List.{AllByRecursion as All}
+use Rattle.std.specs.List.{AllByRecursion}
 use Rattle.image.specs.Images.{image_book}
 use Rattle.image.specs.Words.{word, le}
 use Rattle.pricing.specs.declared.level.Level.{Level}
@@ -34,7 +34,7 @@ image_of w = laid size_in (lists_of w) ++ (laid price_in (lists_of w) ++ laid sh
 
 -- the image of each worked book means it
 abbrev pub BooksImaged : Type 0
-BooksImaged = All (λ e. image_book (image_of e.book) ≡ book_of e.book) books
+BooksImaged = AllByRecursion (λ e. image_book (image_of e.book) ≡ book_of e.book) books
 
 -- price and cause in four bytes each, the count in eight
 abbrev pub answer_in : List ℕ → Priced

@@ -1,6 +1,6 @@
 -- The worked books, each with the outcome that the rules give it, and the tickets of their closes.
 use Rattle.std.specs.Prelude.{◌≡◌, ℕ, false, List, [], ◌∷◌, ◌++◌, map, Some, None, Ok, Err, Option, slice_index_or}
-use Rattle.std.specs.List.{AllByRecursion as All}
+use Rattle.std.specs.List.{AllByRecursion}
 use Rattle.market.specs.declared.quote.Quote.{Quote}
 use Rattle.market.specs.declared.side.Side.TheVariants.{Buy, Sell}
 use Rattle.pricing.specs.declared.level.Level.{Level}
@@ -68,7 +68,7 @@ worked = map (λ e. e.book) books
 
 -- a close on each book has the outcome of its row
 abbrev pub BooksClose : Type 0
-BooksClose = All (λ e. Closing false (book_of e.book) e.book.last_sale e.outcome) books
+BooksClose = AllByRecursion (λ e. Closing false (book_of e.book) e.book.last_sale e.outcome) books
 
 -- shares of the buy that are sent to venue 1 at a price
 abbrev bought : ℕ → ℕ → List Ticket
