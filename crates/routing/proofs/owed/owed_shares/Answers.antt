@@ -14,6 +14,6 @@ returns c =
     record {
       is = omega (arith, b, r);
       all = λ few.
-        let e = take_all 512 c.args.quotes.now few in
-        omega (arith, b, r, ap (better s p) e, ap (reach s p) e);
+          let e = take_all 512 c.args.quotes.now few in
+          omega (arith, b, r, ap (better s p) e, ap (reach s p) e);
     }
