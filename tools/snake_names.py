@@ -1,7 +1,7 @@
 #!/usr/bin/env python3
 """Brings the definitions and lemmas of the crates to one spelling: words in snake case, facts in camel case, no dashes.
 
-usage: python3 tools/snake_names.py [--list]      at the top of the repository
+usage: python3 tools/snake_names.py [--list]      once, at the top of the repository, right after the kit's own scripts
 
 Renamed are the names that specs/ and proofs/ declare (definitions, lemmas, records, their fields, constructors), wherever
 they stand as whole words: in specs/, in proofs/, in the clauses and ghost items of src/, and in the edits of must-fail/.
@@ -12,7 +12,7 @@ import os
 import re
 import sys
 
-HEAD = re.compile(r"^(\s*)((?:(?:abbrev|unfoldable|pub)\s+)*)(record|data|ruleset)?\s*([^\s(){}\[\]:;,.]+)(\s*:\s|\s|$)(.*)$")
+HEAD = re.compile(r"^(\s*)((?:(?:abbrev|unfoldable|pub)\s+)*)(record|data|ruleset)?\s*([^\s(){}\[\]:;,.]+)(\s*:(?:\s|$)|\s|$)(.*)$")
 WORDS = {"use", "module", "unfolding", "open", "let", "in", "elim", "mod", "pub", "--", "λ", "where", "abbrev", "unfoldable", "record", "data", "mutual", "ruleset"}
 # Names that would fall together: a lemma beside the definition of its name ends in `_lem`.
 APART = {

@@ -80,10 +80,10 @@ module _ (bs : List ℕ) (b s d o : ℕ) (sized : Sized bs b s d o) where
       let q = cut.shares_are in
       cc
 
-  pub image-there :
+  pub image_there :
       (bp bq sp sq dp dq op oq : List ℕ) → Cut 0 b bp bq → Cut b s sp sq → Cut (b + s) d dp dq → Cut (b + s + d) o op oq
       → ◌≡◌ {A = Book} (record { buys = levels_in bp bq; sells = levels_in sp sq; bids = quotes_in dp dq; offers = quotes_in op oq }) (image_book bs)
-  image-there bp bq sp sq dp dq op oq buys-cut sells-cut bids-cut offers-cut =
+  image_there bp bq sp sq dp dq op oq buys-cut sells-cut bids-cut offers-cut =
       let buys = cut_orders 0 0 b (buys_in bs) bp bq buys-cut (omega arith) sized.buys_few refl sized.buys_are in
       let sells = cut_orders b (buys_in bs) s (sells_in bs) sp sq sells-cut (omega arith) sized.sells_few sized.buys_are sized.sells_are in
       let bids = cut_quotes (b + s) (buys_in bs + sells_in bs) d (bids_in bs) dp dq bids-cut (omega arith) (omega (arith, sized.bids_few)) (omega (arith, sized.buys_are, sized.sells_are)) sized.bids_are in
