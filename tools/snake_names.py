@@ -112,7 +112,7 @@ def main(argv):
         for old in sorted(table):
             print(f"{old} {table[old]}")
         return 0
-    if bad and "--force" not in argv:
+    if bad:
         return 1
     words = re.compile(r"(?<![^\s(){}\[\]:;,.~])(?:" + "|".join(sorted(map(re.escape, table), key=len, reverse=True)) + r")(?![^\s(){}\[\]:;,.])")
     n = 0

@@ -1,8 +1,10 @@
--- What is left of the calls that the engine's benchmark measures.
-use Rattle.std.specs.Prelude.{◌≡◌, ℕ, List, Ok, Err, Result}
+-- What the calls that the engine's benchmark measures leave and answer.
+use Rattle.std.specs.Prelude.{◌≡◌, ℕ, ◌+◌, true, false, cond, List, [], ◌∷◌, length, is_ok, Some, Ok, Err, Result, nat_lt}
+use Rattle.std.specs.List.{slice_get}
 use Rattle.market.specs.declared.quote.Quote.{Quote}
 use Rattle.market.specs.declared.refusal.Refusal.{Refusal}
 use Rattle.market.specs.Markets.{Market}
+use Rattle.market.specs.Venues.{set_answer, after_set}
 use Rattle.market.specs.Refusals.{refusal_number}
 use Rattle.orders.specs.declared.order.Order.{Order}
 use Rattle.orders.specs.declared.row.OrderRow.{OrderRow}
@@ -10,9 +12,12 @@ use Rattle.routing.specs.declared.ticket.Ticket.{Ticket}
 use Rattle.engine.specs.declared.answer.Answer.{Answer}
 use Rattle.engine.specs.declared.answer.Closing.{Closing}
 use Rattle.engine.specs.declared.call.Call.{Call}
+use Rattle.engine.specs.declared.call.Call.TheVariants.{Begin, Enter}
+use Rattle.engine.specs.declared.stage.Issue.TheVariants.{Ordinary}
 use Rattle.engine.specs.declared.state.Engine.{Engine}
 use Rattle.engine.specs.Answers.{closing_in}
-use Rattle.engine.specs.States.{Held}
+use Rattle.engine.specs.Effects.{Left}
+use Rattle.engine.specs.States.{Held, made}
 use Rattle.engine.specs.Steps.{Called}
 use Rattle.benches.specs.declared.calls.Sent.{Sent}
 use Rattle.benches.specs.declared.calls.Closed.{Closed}
@@ -36,21 +41,42 @@ abbrev pub closed_by : Result Answer Refusal → Closed
 closed_by (Ok answer) = closed 0 (closing_in answer)
 closed_by (Err refusal) = closed (refusal_number refusal) (record { cause = 0; price = 0; count = 0; tickets = 0 })
 
--- what a call answers and leaves in the tables, taken by some engine on some market and some rows
-pub record Taken (call : Call) (after : Held) (answer : Result Answer Refusal) : Type 0 where
+-- a market after each quote of a list was set on a side, 1 for bids and 2 for offers
+abbrev pub quoted_on : ℕ → List Quote → Market → Market
+quoted_on side [] m = m
+quoted_on side (q ∷ qs) m =
+    quoted_on side qs (after_set (is_ok (set_answer q.venue side q.price q.shares)) q.venue side q.price q.shares m)
+
+-- the market of two lists of quotes
+abbrev pub market_of : List Quote → List Quote → Market
+market_of bids offers = quoted_on 2 offers (quoted_on 1 bids (record { bids = []; offers = []; halted = false }))
+
+-- the call that brings the order at a place in: the first begins a cycle
+abbrev pub call_with : ℕ → Sent → Call
+call_with place s = cond (nat_lt 0 place) (Enter (order_of s))
+    (Begin 40000000 (order_of s) (record { short_sale = false; first_quote = Some 0; routing = true; acceptance = 500 }))
+
+-- an engine just made for an ordinary issue, and the rows that it was lent, after the first of these orders came in on a market
+pub data Brought (m : Market) (h : Held) (orders : List Sent) : ℕ → Engine → Held → Type 0 where
+  none : Brought m h orders 0 (made Ordinary) h
+  more : {n : ℕ} {e : Engine} {rows : Held} (s : Sent) (left : Left) → slice_get orders n ≡ Some s → Brought m h orders n e rows
+      → Called e m rows (call_with n s) left → Brought m h orders (n + 1) left.engine left.held
+
+-- what a call answers and leaves in the tables, after all these orders came in
+pub record Taken (m : Market) (before : Held) (orders : List Sent) (call : Call) (after : Held) (answer : Result Answer Refusal) : Type 0 where
   pub engine : Engine
   pub engine' : Engine
-  pub market : Market
-  pub before : Held
-  pub called : Called engine market before call (record { engine = engine'; held = after; answer = answer })
+  pub rows : Held
+  pub brought : Brought m before orders (length orders) engine rows
+  pub called : Called engine m rows call (record { engine = engine'; held = after; answer = answer })
 
 -- the same with the answer in numbers
-pub record Entered (call : Call) (after : Held) (number : ℕ) : Type 0 where
+pub record Entered (m : Market) (before : Held) (orders : List Sent) (call : Call) (after : Held) (number : ℕ) : Type 0 where
   pub answer : Result Answer Refusal
-  pub taken : Taken call after answer
+  pub taken : Taken m before orders call after answer
   pub is : number ≡ number_of answer
 
-pub record ClosedSo (call : Call) (after : Held) (numbers : Closed) : Type 0 where
+pub record ClosedSo (m : Market) (before : Held) (orders : List Sent) (call : Call) (after : Held) (numbers : Closed) : Type 0 where
   pub answer : Result Answer Refusal
-  pub taken : Taken call after answer
+  pub taken : Taken m before orders call after answer
   pub is : numbers ≡ closed_by answer

@@ -1,9 +1,10 @@
 // What the engine's benchmark calls. An engine holds enums, which do not cross to C: so each export makes one and brings
 // it to where the call is measured. Who calls it reads the clock, and takes off what the same export takes on less.
-ghost use Rattle.std.specs.Prelude.{◌≡◌};
+ghost use Rattle.std.specs.Prelude.{◌≡◌, length};
+ghost use Rattle.market.specs.Venues.{market_in};
 ghost use Rattle.engine.specs.declared.call.Call.TheVariants.{Enter, Close};
 ghost use Rattle.engine.specs.States.{held, SameTables};
-ghost use Rattle.benches.specs.Calls.{order_of, lent, number_of, closed_by, Taken, Entered, ClosedSo};
+ghost use Rattle.benches.specs.Calls.{order_of, lent, number_of, closed_by, quoted_on, market_of, call_with, Brought, Taken, Entered, ClosedSo};
 
 use auction::runs;
 use engine::answer::Answer;
@@ -90,20 +91,29 @@ fn closed_by(answer: Result<Answer, Refusal>) -> Closed
     }
 }
 
+// Sets quotes on a side of a venue table, 1 for bids and 2 for offers; one that is refused is left out.
+fn set_quotes(venues: &mut VenueTable, side: u32, quotes: &[Quote])
+    ensures { market_in venues.new ≡ quoted_on side quotes.now (market_in venues.old) }
+{
+    for quote in quotes {
+        let _ = venues.set(quote.venue, side, quote.price, quote.shares);
+    }
+}
+
 // A venue table with bids and offers.
-fn venues_with(bids: &[Quote], offers: &[Quote]) -> VenueTable {
+fn venues_with(bids: &[Quote], offers: &[Quote]) -> VenueTable
+    ensures { market_in result ≡ market_of bids.now offers.now }
+{
     let mut venues = VenueTable::new();
-    for quote in bids {
-        let _ = venues.set(quote.venue, 1, quote.price, quote.shares);
-    }
-    for quote in offers {
-        let _ = venues.set(quote.venue, 2, quote.price, quote.shares);
-    }
+    set_quotes(&mut venues, 1, bids);
+    set_quotes(&mut venues, 2, offers);
     venues
 }
 
 // The call that brings an order in: the first of a cycle begins it.
-fn call_with(place: usize, sent: Sent) -> Call {
+fn call_with(place: usize, sent: Sent) -> Call
+    ensures { result ≡ call_with place sent }
+{
     let order = order_of(sent);
     if place > 0 {
         return Call::Enter { order };
@@ -121,13 +131,16 @@ fn call_with(place: usize, sent: Sent) -> Call {
     }
 }
 
-// Begins a cycle with the first order, and enters the others.
-fn take_orders(engine: &mut Engine, orders: &[Sent], venues: &VenueTable, tables: &mut Tables<'_>)
-    ensures { SameTables tables.old tables.new }
+// Makes an engine, begins a cycle with the first order, and enters the others.
+fn take_orders(orders: &[Sent], venues: &VenueTable, tables: &mut Tables<'_>) -> Engine
+    ensures brought { Brought (market_in venues.now) (held tables.old) orders.now (length orders.now) result (held tables.new) }
+    ensures names { SameTables tables.old tables.new }
 {
+    let mut engine = Engine::new(Issue::Ordinary);
     for (place, sent) in orders.iter().enumerate() {
-        let _ = runs::call(engine, call_with(place, *sent), venues, tables);
+        let _ = runs::call(&mut engine, call_with(place, *sent), venues, tables);
     }
+    engine
 }
 
 // Takes orders on an outside market of bids and offers, and then a call.
@@ -137,11 +150,10 @@ fn call_after(
     call: Call,
     tables: &mut Tables<'_>,
 ) -> Result<Answer, Refusal>
-    ensures called { Taken call (held tables.new) result }
+    ensures called { Taken (market_in venues.now) (held tables.old) orders.now call (held tables.new) result }
     ensures names { SameTables tables.old tables.new }
 {
-    let mut engine = Engine::new(Issue::Ordinary);
-    take_orders(&mut engine, orders, venues, tables);
+    let mut engine = take_orders(orders, venues, tables);
     runs::call(&mut engine, call, venues, tables)
 }
 
@@ -158,7 +170,7 @@ pub extern "C" fn bench_enter<'a>(
     orders: &[Sent],
     next: &Sent,
 ) -> u32
-    ensures { Entered (Enter (order_of next.now)) (lent buys.new sells.new bids.new offers.new tickets.new) result }
+    ensures { Entered (market_of bids_quoted.now offers_quoted.now) (lent buys.old sells.old bids.old offers.old tickets.old) orders.now (Enter (order_of next.now)) (lent buys.new sells.new bids.new offers.new tickets.new) result }
 {
     let venues = venues_with(bids_quoted, offers_quoted);
     let mut tables = Tables {
@@ -188,7 +200,7 @@ pub extern "C" fn bench_close<'a>(
     last_sale: u32,
     closed: &mut Closed,
 )
-    ensures { ClosedSo (Close 40000500 last_sale) (lent buys.new sells.new bids.new offers.new tickets.new) closed.new }
+    ensures { ClosedSo (market_of bids_quoted.now offers_quoted.now) (lent buys.old sells.old bids.old offers.old tickets.old) orders.now (Close 40000500 last_sale) (lent buys.new sells.new bids.new offers.new tickets.new) closed.new }
 {
     let venues = venues_with(bids_quoted, offers_quoted);
     let mut tables = Tables {
