@@ -2,6 +2,7 @@
 ghost use Rattle.std.specs.Prelude.{◌≡◌, false, []};
 ghost use Rattle.engine.specs.declared.stage.Issue.TheVariants.{Ordinary};
 ghost use Rattle.engine.specs.States.{made};
+ghost use Rattle.engine.specs.Effects.{emptied};
 ghost use Rattle.engine.specs.Outstanding.{outstanding_of};
 ghost use Rattle.engine.specs.Steps.{Called, Untouched};
 ghost use Rattle.auction.specs.Tallies.{Tally};
@@ -38,6 +39,7 @@ impl Desk {
     pub fn new() -> Desk
         ensures engine { result.engine ≡ made Ordinary }
         ensures market { market_of result ≡ record { bids = []; offers = []; halted = false } }
+        ensures rows { rows_of result ≡ emptied (rows_of result) }
     {
         Desk {
             engine: Engine::new(Issue::Ordinary),
