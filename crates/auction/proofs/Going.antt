@@ -79,7 +79,7 @@ module _ (e : Engine) (m : Market) (h : Held) (y : Tally) (kept : Kept e h y) wh
   close_kept : (time last : ℕ) (x : Outcome) → CloseGranted e m h y last x
       → Kept (close e m h time x).engine (close e m h time x).held (fed y m (Close time last) (close e m h time x).answer)
   close_kept time last (Ok x) g = begun_kept _ _ _ g.begun (priced_good e h y g.good g.accepting m g.fit time last x g.closing)
-      (routed_out y kept.out (g.good.no_tickets g.accepting) g.good.buys.numbered g.good.sells.numbered g.good.apart m x.0 (time + ticket_time))
+      (routed_out y kept.out (g.good.no_tickets g.accepting) g.good.buys.numbered g.good.sells.numbered g.good.apart m x.price (time + ticket_time))
   close_kept time last (Err Halted) g = begun_kept _ _ _ g.begun (unpriced_good e h y g.good time m g.accepting Halted) (abort_out y kept.out)
   close_kept time last (Err LockedOrCrossed) g = begun_kept _ _ _ g.begun (unpriced_good e h y g.good time m g.accepting LockedOrCrossed) (unpriced_out y kept.out m)
   close_kept time last (Err NothingToTrade) g = begun_kept _ _ _ g.begun (unpriced_good e h y g.good time m g.accepting NothingToTrade) (unpriced_out y kept.out m)

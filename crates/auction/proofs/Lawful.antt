@@ -37,7 +37,7 @@ module _ (e : Engine) (m : Market) (h : Held) (y : Tally) (kept : Kept e h y) wh
       → CallLaws y m (Close time last) (close e m h time x).answer (fed y m (Close time last) (close e m h time x).answer)
   closed_laws time last (Ok x) g =
       let price = best_price_lem last (Ok x) g in
-      (price, (routed_in_rank x.0 (time + ticket_time) m y, ticketed_whole y m g.fit (time + ticket_time) last x price.defined))
+      (price, (routed_in_rank x.price (time + ticket_time) m y, ticketed_whole y m g.fit (time + ticket_time) last x price.defined))
   closed_laws time last (Err Halted) g = best_price_lem last (Err Halted) g
   closed_laws time last (Err LockedOrCrossed) g = best_price_lem last (Err LockedOrCrossed) g
   closed_laws time last (Err NothingToTrade) g = best_price_lem last (Err NothingToTrade) g

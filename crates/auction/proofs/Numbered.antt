@@ -8,7 +8,7 @@ use Rattle.ranking.proofs.Insertion.{all_placed}
 use Rattle.orders.specs.declared.row.OrderRow.{OrderRow}
 use Rattle.orders.specs.Rows.{empty_row}
 use Rattle.orders.specs.Tables.{before, place_of}
-use Rattle.engine.proofs.Opens.{stops}
+use Rattle.std.proofs.lemmas.List.Sums.{prefix_len_stops}
 use Rattle.auction.specs.Tallies.{on_number}
 use Rattle.auction.proofs.Good.{Numbers, Free}
 
@@ -72,7 +72,7 @@ module _ (n : ℕ) (f : OrderRow → OrderRow) where
 -- where a number stands, and that it stands nowhere
 module _ (n : ℕ) where
   pub stands : (ws : List OrderRow) → before n ws < length ws → (get_or ws (before n ws) empty_row).number ≡ n
-  stands ws h = eqb-true _ n (not-false _ (stops (λ w. not (eqb w.number n)) ws empty_row h))
+  stands ws h = eqb-true _ n (not-false _ (prefix_len_stops (λ w. not (eqb w.number n)) ws empty_row h))
 
   free_cons : (w : OrderRow) (ws : List OrderRow) (t : Bool) → eqb w.number n ≡ t → (length ws ≤ before n ws → Free n ws) → length (w ∷ ws) ≤ cond (not t) (1 + before n ws) 0 → Free n (w ∷ ws)
   free_cons w ws true e rest h = absurd (omega arith)

@@ -10,6 +10,7 @@ use Rattle.market.specs.Fits.{quotes_fit}
 use Rattle.market.specs.Markets.{Market, no_quote}
 use Rattle.market.specs.Rankings.{higher, lower, quote_ahead}
 use Rattle.market.proofs.Fitting.{bids_fit, offers_fit, few_quotes}
+use Rattle.pricing.specs.declared.snap.Snap.{Snap}
 use Rattle.pricing.specs.Closing.{Closing}
 use Rattle.orders.specs.declared.row.OrderRow.{OrderRow}
 use Rattle.orders.specs.Rows.{with_out}
@@ -116,7 +117,7 @@ module _ (e : Engine) (h : Held) (y : Tally) (good : Good e h y) (m : Market) (p
           ))
 
       routed_good : is_acceptance e.stage ≡ true → (time count : ℕ)
-          → Good (close e m h time (Ok (p, count))).engine (close e m h time (Ok (p, count))).held (routed p (time + ticket_time) m y)
+          → Good (close e m h time (Ok (record { price = p; count = count }))).engine (close e m h time (Ok (record { price = p; count = count }))).held (routed p (time + ticket_time) m y)
       routed_good accepting time count =
           let ts : List Ticket = tickets_at e m h p in
           let b : ℕ = owed Buy (book_in e m h) p in
@@ -151,7 +152,7 @@ module _ (e : Engine) (h : Held) (y : Tally) (good : Good e h y) (m : Market) (p
           }
 
 pub priced_good : (e : Engine) (h : Held) (y : Tally) → Good e h y → is_acceptance e.stage ≡ true → (m : Market) → quotes_fit m ≡ true
-    → (time last : ℕ) (x : ℕ × ℕ) → Closing m.halted (book_in e m h) last (Ok x)
-    → Good (close e m h time (Ok x)).engine (close e m h time (Ok x)).held (routed x.0 (time + ticket_time) m y)
+    → (time last : ℕ) (x : Snap) → Closing m.halted (book_in e m h) last (Ok x)
+    → Good (close e m h time (Ok x)).engine (close e m h time (Ok x)).held (routed x.price (time + ticket_time) m y)
 priced_good e h y good accepting m fit time last x closing =
-    routed_good e h y good m x.0 (one_side_owes (book_in e m h) x.0 closing.0.apart) fit accepting time x.1
+    routed_good e h y good m x.price (one_side_owes (book_in e m h) x.price closing.0.apart) fit accepting time x.count

@@ -16,6 +16,7 @@ use Rattle.market.specs.Markets.{Market, no_quote}
 use Rattle.market.specs.Prices.{permitted}
 use Rattle.market.specs.Rankings.{higher, lower, quote_ahead}
 use Rattle.market.proofs.Fitting.{bids_fit, offers_fit}
+use Rattle.pricing.specs.declared.snap.Snap.{Snap}
 use Rattle.pricing.specs.Candidates.{Clears}
 use Rattle.pricing.specs.Closing.{Closing, best_on, reference, touching}
 use Rattle.pricing.proofs.Levels.{sum_by_map}
@@ -169,7 +170,7 @@ module _ (y : Tally) (m : Market) (fit : quotes_fit m ≡ true) (p : ℕ) (apart
     bids = All-from_get_or _ m.bids no_quote bid_whole;
   }
 
-pub ticketed_whole : (y : Tally) (m : Market) → quotes_fit m ≡ true → (deadline last : ℕ) (x : ℕ × ℕ) → Closing m.halted (book_by y m) last (Ok x)
-    → TicketedWhole x.0 m (routed x.0 deadline m y).tickets
+pub ticketed_whole : (y : Tally) (m : Market) → quotes_fit m ≡ true → (deadline last : ℕ) (x : Snap) → Closing m.halted (book_by y m) last (Ok x)
+    → TicketedWhole x.price m (routed x.price deadline m y).tickets
 ticketed_whole y m fit deadline last x closing =
-    all_whole y m fit x.0 closing.0.apart (price_clears (book_by y m) (reference (book_by y m) last) x.0 closing.1.1.price_is) deadline
+    all_whole y m fit x.price closing.0.apart (price_clears (book_by y m) (reference (book_by y m) last) x.price closing.1.1.price_is) deadline

@@ -89,7 +89,7 @@ Exhausted price y = (executable_of Buy price (rest_levels y.buys) ≡ 0) ⊎ (ex
 -- what a close promises, by what it answered
 abbrev pub CloseLaws : Tally → Market → ℕ → Answer → Tally → Type 0
 CloseLaws y m last (Priced price count tickets) y' =
-    BestPrice y m last (Ok (price, count)) × (RankOrder (λ w. w.out) y y' × TicketedWhole price m y'.tickets)
+    BestPrice y m last (Ok (record { price = price; count = count })) × (RankOrder (λ w. w.out) y y' × TicketedWhole price m y'.tickets)
 CloseLaws y m last (Unpriced cause) y' = BestPrice y m last (Err cause)
 CloseLaws y m last Done y' = ⊥
 CloseLaws y m last (Cancelled shares) y' = ⊥

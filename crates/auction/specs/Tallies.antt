@@ -142,7 +142,7 @@ closed time m (Err Halted) y = staged Open (without_rests y)
 closed time m (Err LockedOrCrossed) y = unrouted m y
 closed time m (Err NothingToTrade) y = unrouted m y
 closed time m (Err NoReference) y = unrouted m y
-closed time m (Ok x) y = routed x.0 (time + ticket_time) m y
+closed time m (Ok x) y = routed x.price (time + ticket_time) m y
 
 -- a ticket closed: its order gets what was filled, and the others rest again, or are late once matched
 abbrev pub settled : ℕ → ℕ → Ticket → Tally → Tally
@@ -192,7 +192,7 @@ granted_to y m (Abort time) x = staged Open (without_rests y)
 abbrev pub outcome_of : Answer → Outcome
 outcome_of Done = Err NothingToTrade
 outcome_of (Cancelled shares) = Err NothingToTrade
-outcome_of (Priced price count tickets') = Ok (price, count)
+outcome_of (Priced price count tickets') = Ok (record { price = price; count = count })
 outcome_of (Unpriced cause) = Err cause
 outcome_of (Executed shares) = Err NothingToTrade
 

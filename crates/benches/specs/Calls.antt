@@ -19,11 +19,7 @@ use Rattle.engine.specs.Answers.{closing_in}
 use Rattle.engine.specs.Effects.{Left}
 use Rattle.engine.specs.States.{Held, made}
 use Rattle.engine.specs.Steps.{Called}
-use Rattle.benches.specs.declared.calls.Sent.{Sent}
 use Rattle.benches.specs.declared.calls.Closed.{Closed}
-
-abbrev pub order_of : Sent → Order
-order_of s = record { number = s.number; side = s.side; class = s.class; price = s.price; shares = s.shares }
 
 -- the five tables as they were lent
 abbrev pub lent : List OrderRow → List OrderRow → List Quote → List Quote → List Ticket → Held
@@ -52,18 +48,18 @@ abbrev pub market_of : List Quote → List Quote → Market
 market_of bids offers = quoted_on 2 offers (quoted_on 1 bids (record { bids = []; offers = []; halted = false }))
 
 -- the call that brings the order at a place in: the first begins a cycle
-abbrev pub call_with : ℕ → Sent → Call
-call_with place s = cond (nat_lt 0 place) (Enter (order_of s))
-    (Begin 40000000 (order_of s) (record { short_sale = false; first_quote = Some 0; routing = true; acceptance = 500 }))
+abbrev pub call_with : ℕ → Order → Call
+call_with place s = cond (nat_lt 0 place) (Enter s)
+    (Begin 40000000 s (record { short_sale = false; first_quote = Some 0; routing = true; acceptance = 500 }))
 
 -- an engine just made for an ordinary issue, and the rows that it was lent, after the first of these orders came in on a market
-pub data Brought (m : Market) (h : Held) (orders : List Sent) : ℕ → Engine → Held → Type 0 where
+pub data Brought (m : Market) (h : Held) (orders : List Order) : ℕ → Engine → Held → Type 0 where
   none : Brought m h orders 0 (made Ordinary) h
-  more : {n : ℕ} {e : Engine} {rows : Held} (s : Sent) (left : Left) → slice_get orders n ≡ Some s → Brought m h orders n e rows
+  more : {n : ℕ} {e : Engine} {rows : Held} (s : Order) (left : Left) → slice_get orders n ≡ Some s → Brought m h orders n e rows
       → Called e m rows (call_with n s) left → Brought m h orders (n + 1) left.engine left.held
 
 -- what a call answers and leaves in the tables, after all these orders came in
-pub record Taken (m : Market) (before : Held) (orders : List Sent) (call : Call) (after : Held) (answer : Result Answer Refusal) : Type 0 where
+pub record Taken (m : Market) (before : Held) (orders : List Order) (call : Call) (after : Held) (answer : Result Answer Refusal) : Type 0 where
   pub engine : Engine
   pub engine' : Engine
   pub rows : Held
@@ -71,12 +67,12 @@ pub record Taken (m : Market) (before : Held) (orders : List Sent) (call : Call)
   pub called : Called engine m rows call (record { engine = engine'; held = after; answer = answer })
 
 -- the same with the answer in numbers
-pub record Entered (m : Market) (before : Held) (orders : List Sent) (call : Call) (after : Held) (number : ℕ) : Type 0 where
+pub record Entered (m : Market) (before : Held) (orders : List Order) (call : Call) (after : Held) (number : ℕ) : Type 0 where
   pub answer : Result Answer Refusal
   pub taken : Taken m before orders call after answer
   pub is : number ≡ number_of answer
 
-pub record ClosedSo (m : Market) (before : Held) (orders : List Sent) (call : Call) (after : Held) (numbers : Closed) : Type 0 where
+pub record ClosedSo (m : Market) (before : Held) (orders : List Order) (call : Call) (after : Held) (numbers : Closed) : Type 0 where
   pub answer : Result Answer Refusal
   pub taken : Taken m before orders call after answer
   pub is : numbers ≡ closed_by answer

@@ -1,10 +1,11 @@
 // What the engine's benchmark calls. An engine holds enums, which do not cross to C: so each export makes one and brings
-// it to where the call is measured. Who calls it reads the clock, and takes off what the same export takes on less.
+// it to where the call is measured. The benchmark takes off the time of the same export without that call.
 ghost use Rattle.std.specs.Prelude.{◌≡◌, length};
+ghost use Rattle.market.specs.Sides.{side_number};
 ghost use Rattle.market.specs.Venues.{market_in};
 ghost use Rattle.engine.specs.declared.call.Call.TheVariants.{Enter, Close};
 ghost use Rattle.engine.specs.States.{held, SameTables};
-ghost use Rattle.benches.specs.Calls.{order_of, lent, number_of, closed_by, quoted_on, market_of, call_with, Brought, Taken, Entered, ClosedSo};
+ghost use Rattle.benches.specs.Calls.{lent, number_of, closed_by, quoted_on, market_of, call_with, Brought, Taken, Entered, ClosedSo};
 
 use auction::runs;
 use engine::answer::Answer;
@@ -14,25 +15,15 @@ use engine::state::Engine;
 use engine::tables::Tables;
 use market::quote::Quote;
 use market::refusal::Refusal;
+use market::side::Side;
 use market::venues::VenueTable;
 use orders::order::Order;
 use orders::row::OrderRow;
 use routing::ticket::Ticket;
 
-// An order as a member sends it.
-#[repr(C)]
-#[derive(Clone, Copy)]
-pub struct Sent {
-    pub number: u32,
-    pub side: u32,
-    pub class: u32,
-    pub price: u32,
-    pub shares: u32,
-}
-
 // What a close answers, in numbers: the refusal, or 0 with the others.
 #[repr(C)]
-#[derive(Clone, Copy)]
+#[derive(Clone, Copy, Default)]
 pub struct Closed {
     pub refusal: u32,
     pub cause: u32,
@@ -46,57 +37,44 @@ const BEGIN: u32 = 40_000_000;
 
 const ACCEPTANCE: u32 = 500;
 
-fn order_of(sent: Sent) -> Order
-    ensures { result ≡ order_of sent }
-{
-    Order {
-        number: sent.number,
-        side: sent.side,
-        class: sent.class,
-        price: sent.price,
-        shares: sent.shares,
-    }
-}
-
 fn number_of(answer: Result<Answer, Refusal>) -> u32
     ensures { result ≡ number_of answer }
 {
     match answer {
         Ok(_) => 0,
-        Err(refusal) => refusal.number(),
+        Err(refusal) => u32::from(refusal),
     }
 }
 
-fn closed_by(answer: Result<Answer, Refusal>) -> Closed
-    ensures { result ≡ closed_by answer }
-{
-    match answer {
-        Ok(answer) => {
-            let closing = answer.closing();
-            Closed {
-                refusal: 0,
-                cause: closing.cause,
-                price: closing.price,
-                count: closing.count,
-                tickets: closing.tickets,
+impl From<Result<Answer, Refusal>> for Closed {
+    ghost from_gives = { λ answer closed. closed ≡ closed_by answer };
+
+    fn from(answer: Result<Answer, Refusal>) -> Closed {
+        match answer {
+            Ok(answer) => {
+                let closing = answer.closing();
+                Closed {
+                    refusal: 0,
+                    cause: closing.cause,
+                    price: closing.price,
+                    count: closing.count,
+                    tickets: closing.tickets,
+                }
             }
+            Err(refusal) => Closed {
+                refusal: u32::from(refusal),
+                ..Closed::default()
+            },
         }
-        Err(refusal) => Closed {
-            refusal: refusal.number(),
-            cause: 0,
-            price: 0,
-            count: 0,
-            tickets: 0,
-        },
     }
 }
 
-// Sets quotes on a side of a venue table, 1 for bids and 2 for offers; one that is refused is left out.
-fn set_quotes(venues: &mut VenueTable, side: u32, quotes: &[Quote])
-    ensures { market_in venues.new ≡ quoted_on side quotes.now (market_in venues.old) }
+// Sets quotes on a side of a venue table; one that is refused is left out.
+fn set_quotes(venues: &mut VenueTable, side: Side, quotes: &[Quote])
+    ensures { market_in venues.new ≡ quoted_on (side_number side) quotes.now (market_in venues.old) }
 {
     for quote in quotes {
-        let _ = venues.set(quote.venue, side, quote.price, quote.shares);
+        let _ = venues.set(quote.venue, u32::from(side), quote.price, quote.shares);
     }
 }
 
@@ -105,16 +83,15 @@ fn venues_with(bids: &[Quote], offers: &[Quote]) -> VenueTable
     ensures { market_in result ≡ market_of bids.now offers.now }
 {
     let mut venues = VenueTable::new();
-    set_quotes(&mut venues, 1, bids);
-    set_quotes(&mut venues, 2, offers);
+    set_quotes(&mut venues, Side::Buy, bids);
+    set_quotes(&mut venues, Side::Sell, offers);
     venues
 }
 
 // The call that brings an order in: the first of a cycle begins it.
-fn call_with(place: usize, sent: Sent) -> Call
-    ensures { result ≡ call_with place sent }
+fn call_with(place: usize, order: Order) -> Call
+    ensures { result ≡ call_with place order }
 {
-    let order = order_of(sent);
     if place > 0 {
         return Call::Enter { order };
     }
@@ -132,20 +109,21 @@ fn call_with(place: usize, sent: Sent) -> Call
 }
 
 // Makes an engine, begins a cycle with the first order, and enters the others.
-fn take_orders(orders: &[Sent], venues: &VenueTable, tables: &mut Tables<'_>) -> Engine
+fn take_orders(orders: &[Order], venues: &VenueTable, tables: &mut Tables<'_>) -> Engine
     ensures brought { Brought (market_in venues.now) (held tables.old) orders.now (length orders.now) result (held tables.new) }
     ensures names { SameTables tables.old tables.new }
 {
     let mut engine = Engine::new(Issue::Ordinary);
-    for (place, sent) in orders.iter().enumerate() {
-        let _ = runs::call(&mut engine, call_with(place, *sent), venues, tables);
+    // Which call brings an order in is said by its place, in the contract too.
+    for (place, order) in orders.iter().enumerate() {
+        let _ = runs::call(&mut engine, call_with(place, *order), venues, tables);
     }
     engine
 }
 
 // Takes orders on an outside market of bids and offers, and then a call.
 fn call_after(
-    orders: &[Sent],
+    orders: &[Order],
     venues: &VenueTable,
     call: Call,
     tables: &mut Tables<'_>,
@@ -167,10 +145,10 @@ pub extern "C" fn bench_enter<'a>(
     tickets: &'a mut [Ticket],
     bids_quoted: &[Quote],
     offers_quoted: &[Quote],
-    orders: &[Sent],
-    next: &Sent,
+    orders: &[Order],
+    next: &Order,
 ) -> u32
-    ensures { Entered (market_of bids_quoted.now offers_quoted.now) (lent buys.old sells.old bids.old offers.old tickets.old) orders.now (Enter (order_of next.now)) (lent buys.new sells.new bids.new offers.new tickets.new) result }
+    ensures { Entered (market_of bids_quoted.now offers_quoted.now) (lent buys.old sells.old bids.old offers.old tickets.old) orders.now (Enter next.now) (lent buys.new sells.new bids.new offers.new tickets.new) result }
 {
     let venues = venues_with(bids_quoted, offers_quoted);
     let mut tables = Tables {
@@ -180,9 +158,7 @@ pub extern "C" fn bench_enter<'a>(
         offers,
         tickets,
     };
-    let call = Call::Enter {
-        order: order_of(*next),
-    };
+    let call = Call::Enter { order: *next };
     number_of(call_after(orders, &venues, call, &mut tables))
 }
 
@@ -196,7 +172,7 @@ pub extern "C" fn bench_close<'a>(
     tickets: &'a mut [Ticket],
     bids_quoted: &[Quote],
     offers_quoted: &[Quote],
-    orders: &[Sent],
+    orders: &[Order],
     last_sale: u32,
     closed: &mut Closed,
 )
@@ -214,5 +190,5 @@ pub extern "C" fn bench_close<'a>(
         time: BEGIN + ACCEPTANCE,
         last_sale,
     };
-    *closed = closed_by(call_after(orders, &venues, call, &mut tables));
+    *closed = Closed::from(call_after(orders, &venues, call, &mut tables));
 }

@@ -4,8 +4,9 @@ ghost use Rattle.ranking.specs.Ranked.{placed};
 ghost use Rattle.benches.specs.Rows.{row_ahead};
 ghost use Rattle.routing.specs.Tickets.{Ticketed, TicketedIn};
 
-use crate::row::{HigherFirst, Row};
+use crate::row::Row;
 use market::quote::Quote;
+use market::rankings::HigherFirst;
 use orders::row::OrderRow;
 use ranking::seat::seat;
 use routing::ticket::Ticket;

@@ -1,8 +1,10 @@
-// Rows of 44 bytes, as a book of orders has them.
+// Rows of 44 bytes, as a book of orders has them, and as C lends them.
 ghost use Rattle.benches.specs.Rows.{row_ahead};
 ghost use Rattle.std.proofs.Common.{rules};
 
+use market::rankings::HigherFirst;
 use ranking::rank::Ranking;
+use std::cmp::Reverse;
 
 #[repr(C)]
 #[derive(Clone, Copy)]
@@ -16,9 +18,6 @@ pub struct Row {
 }
 
 // The higher price first, then the lower class, then the lower number.
-#[derive(Clone, Copy)]
-pub struct HigherFirst;
-
 impl Ranking<Row> for HigherFirst {
     ghost ahead = { row_ahead };
 
@@ -29,12 +28,6 @@ impl Ranking<Row> for HigherFirst {
     ghost level = { Prim.search rules };
 
     fn is_ahead(a: &Row, b: &Row) -> bool {
-        if a.price != b.price {
-            b.price < a.price
-        } else if a.class != b.class {
-            a.class < b.class
-        } else {
-            a.number < b.number
-        }
+        (Reverse(a.price), a.class, a.number) < (Reverse(b.price), b.class, b.number)
     }
 }

@@ -2,13 +2,13 @@
 use engine::answer::Answer;
 use engine::call::Call;
 use market::refusal::Refusal;
-use orders::order::Order;
+use market::side::Side;
+use orders::order::{Class, Order};
 use report::numbers::{Dollars, Grouped};
-use report::words::{cause_words, refusal_words};
 use std::fmt;
 
 // A time of the day, from milliseconds since midnight.
-#[derive(Clone, Copy)]
+#[derive(Clone, Copy, Debug, PartialEq, Eq)]
 pub struct Clock(pub u32);
 
 impl fmt::Display for Clock {
@@ -21,39 +21,21 @@ impl fmt::Display for Clock {
     }
 }
 
-// A count of shares at the right end of a column of 10.
-#[derive(Clone, Copy)]
-pub struct Shares(pub u32);
-
-impl fmt::Display for Shares {
-    fn fmt<W: fmt::Write>(&self, f: &mut fmt::Formatter<W>) -> fmt::Result {
-        let millions = self.0 / 1_000_000;
-        let thousands = self.0 / 1_000 % 1_000;
-        let ones = self.0 % 1_000;
-        if millions > 0 {
-            write!(f, "{millions:>2},{thousands:03},{ones:03}")
-        } else if thousands > 0 {
-            write!(f, "{thousands:>6},{ones:03}")
-        } else {
-            write!(f, "{ones:>10}")
-        }
-    }
-}
-
+// A refused order may have any numbers, so names are of numbers.
 pub fn side_name(side: u32) -> &'static str {
-    match side {
-        1 => "buy",
-        2 => "sell",
-        _ => "unknown",
+    match Side::try_from(side) {
+        Ok(Side::Buy) => "buy",
+        Ok(Side::Sell) => "sell",
+        Err(_) => "unknown",
     }
 }
 
 pub fn class_name(class: u32) -> &'static str {
-    match class {
-        0 => "displayed",
-        1 => "reserve",
-        2 => "hidden",
-        _ => "unknown",
+    match Class::try_from(class) {
+        Ok(Class::Displayed) => "displayed",
+        Ok(Class::Reserve) => "reserve",
+        Ok(Class::Hidden) => "hidden",
+        Err(_) => "unknown",
     }
 }
 
@@ -133,9 +115,8 @@ impl fmt::Display for AnswerWords {
                 write!(f, "priced at {dollars}, count {count}, {tickets} tickets")
             }
             Answer::Unpriced { cause } => {
-                let number = cause.number();
-                let words = cause_words(cause);
-                write!(f, "no price, cause {number}, {words}")
+                let number = u32::from(cause);
+                write!(f, "no price, cause {number}, {cause}")
             }
             Answer::Executed { shares } => {
                 let shares = Grouped(shares);
@@ -157,9 +138,8 @@ impl fmt::Display for Outcome {
                 write!(f, "{words}")
             }
             Err(refusal) => {
-                let number = refusal.number();
-                let words = refusal_words(refusal);
-                write!(f, "refused with {number}, {words}")
+                let number = u32::from(refusal);
+                write!(f, "refused with {number}, {refusal}")
             }
         }
     }

@@ -1,7 +1,7 @@
 // What stood at the close: the rows before it, and the quotes that it read.
 ghost use Rattle.std.specs.Prelude.{◌≡◌, ◌+◌, ◌-◌, ◌≤◌, if◌then◌else◌, nat_le, nat_lt};
 ghost use Rattle.market.specs.Limits.{highest_price, dollar, fine_step, cent};
-ghost use Rattle.pricing.specs.Books.{demand_at, supply_at, count_at};
+ghost use Rattle.pricing.specs.Books.{demand_at, supply_at, shares_at, count_at};
 ghost use Rattle.engine.specs.Books.{book_from};
 ghost use Rattle.desk.specs.Depths.{book_of};
 
@@ -11,8 +11,7 @@ use market::limits::{CENT, DOLLAR, FINE_STEP};
 use market::quote::Quote;
 use market::side::Side;
 use orders::row::OrderRow;
-use orders::side::{demand_at, supply_at};
-use routing::owed::quoted_to;
+use pricing::level::executable;
 
 #[derive(Clone, Copy)]
 pub struct Depth {
@@ -27,33 +26,40 @@ impl Depth {
     pub fn at_close(before: &Desk, after: &Desk) -> Depth
         ensures { book_of result ≡ book_from before.now.buys before.now.sells after.now.bids after.now.offers }
     {
-        let buys = before.buys;
-        let sells = before.sells;
-        let bids = after.bids;
-        let offers = after.offers;
         Depth {
-            buys,
-            sells,
-            bids,
-            offers,
+            buys: before.buys,
+            sells: before.sells,
+            bids: after.bids,
+            offers: after.offers,
         }
+    }
+
+    // The shares of a side that can trade at a price.
+    fn executable(&self, side: Side, price: u32) -> u64
+        ensures { result ≡ shares_at side (book_of self.now) price }
+    {
+        let (rows, quotes) = match side {
+            Side::Buy => (&self.buys, &self.bids),
+            Side::Sell => (&self.sells, &self.offers),
+        };
+        executable(side, rows, price) + executable(side, quotes, price)
     }
 
     // The shares of buys and bids at a price or higher.
     pub fn demand(&self, price: u32) -> u64
         ensures { result ≡ demand_at (book_of self.now) price }
     {
-        demand_at(&self.buys, price) + quoted_to(Side::Sell, price, &self.bids)
+        self.executable(Side::Buy, price)
     }
 
     // The shares of sells and offers at a price or lower.
     pub fn supply(&self, price: u32) -> u64
         ensures { result ≡ supply_at (book_of self.now) price }
     {
-        supply_at(&self.sells, price) + quoted_to(Side::Buy, price, &self.offers)
+        self.executable(Side::Sell, price)
     }
 
-    // The shares that find both a buyer and a seller at a price.
+    // The shares that find both a buyer and a seller at a price, as of a book that can be viewed.
     pub fn count(&self, price: u32) -> u64
         ensures { result ≡ count_at (book_of self.now) price }
     {
@@ -69,7 +75,7 @@ pub fn step_below(price: u32) -> u32
     price.saturating_sub(step)
 }
 
-// The permitted price one step above a permitted one.
+// The permitted price one step above a permitted one. At a dollar the step above is another than the step below.
 pub fn step_above(price: u32) -> u32
     ensures { price ≤ highest_price → result ≡ price + (if nat_lt price dollar then fine_step else cent) }
 {

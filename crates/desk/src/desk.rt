@@ -52,7 +52,8 @@ impl Desk {
         }
     }
 
-    // Makes a call of the engine on the venues and the tables of the desk.
+    // Makes a call of the engine on the venues and the tables of the desk. The tables are made here and below: they lie beside
+    // the engine and the venues, which a method that lent them would borrow too.
     pub fn call(&mut self, asked: Call) -> Result<Answer, Refusal>
         ensures called { Called self.old.engine (market_of self.old) (rows_of self.old) asked (left_at self.new result) }
         ensures refused { Untouched self.old.engine (rows_of self.old) (left_at self.new result) }

@@ -1,8 +1,7 @@
+pub mod Steps
 pub mod Opens
 pub mod Filling
-pub mod Ticketing
 pub mod Routing
-pub mod Lending
 pub mod Turning
 pub mod Unread
 pub mod Refusing

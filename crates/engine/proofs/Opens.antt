@@ -1,6 +1,9 @@
 -- The first ticket that is not reported.
-use Rattle.std.proofs.Common.{◌≡◌, ℕ, suc, ◌+◌, ◌-◌, ◌<◌, ◌≤◌, Bool, true, false, cond, ◌&&◌, ltb, leb, List, [], ◌∷◌, length, get_or, Some, None, Ok, Err, sym, refl, ap, ◌∙◌, arith, length-take}
-use Rattle.std.specs.List.{prefix_len}
+use Rattle.std.proofs.Common.{◌≡◌, ℕ, ◌+◌, ◌-◌, ◌<◌, ◌≤◌, Bool, true, false, cond, not, ltb, leb, List, length, get_or, Some, None, Ok, Err, sym, refl, ap, ◌∙◌, arith, length-take}
+use Rattle.std.specs.List.{prefix_len, position_or_len, position}
+use Rattle.std.specs.Option.{option_map}
+use Rattle.std.proofs.lemmas.List.Sums.{prefix_len_passes, prefix_len_stops}
+use Rattle.std.proofs.lemmas.List.Recursion.{is_position_or_len, and_from_places}
 use Rattle.std.proofs.lemmas.Bool.{and_from, le-leb, ltb-true, ltb-false}
 use Rattle.market.specs.declared.refusal.Refusal.TheVariants.{TableSizes}
 use Rattle.market.specs.Fits.{all_by}
@@ -12,38 +15,37 @@ use Rattle.engine.specs.Questions.{sizes_fit}
 use Rattle.engine.proofs.Sizes.{sizes}
 use Rattle.engine.specs.Outstanding.{first_open, outstanding_of, OpenTicket, Outstanding}
 
--- the front that passes ends at an item that does not, or is all
-module _ {X : Type 0} (p : X → Bool) where
-  cons_stops : (x : X) (xs : List X) (d : X) (t : Bool) → p x ≡ t → (prefix_len p xs < length xs → p (get_or xs (prefix_len p xs) d) ≡ false)
-      → cond t (1 + prefix_len p xs) 0 < length (x ∷ xs) → p (get_or (x ∷ xs) (cond t (1 + prefix_len p xs) 0) d) ≡ false
-  cons_stops x xs d true e ih h =
-      let n : 1 + prefix_len p xs ≡ suc (prefix_len p xs) = omega arith in
-      rw n (ih (omega arith))
-  cons_stops x xs d false e ih h = e
+-- the tickets before the first that is not reported
+module _ (p : Ticket → Bool) where
+  flipped : (t : Bool) (n : ℕ) → cond t (1 + n) 0 ≡ cond (not t) 0 (1 + n)
+  flipped true n = refl
+  flipped false n = refl
 
-  pub stops : (xs : List X) (d : X) → prefix_len p xs < length xs → p (get_or xs (prefix_len p xs) d) ≡ false
-  stops [] d h = absurd (omega arith)
-  stops (x ∷ xs) d h = cons_stops x xs d (p x) refl (stops xs d) h
+  before_first : (ts : List Ticket) → prefix_len p ts ≡ position_or_len (λ t. not (p t)) ts
+  before_first = is_position_or_len (prefix_len p) (λ t. not (p t)) refl (λ t ts. flipped (p t) (prefix_len p ts))
 
-  cons_all : (x : X) (xs : List X) (t : Bool) → p x ≡ t → (length xs ≤ prefix_len p xs → all_by p xs ≡ true) → length (x ∷ xs) ≤ cond t (1 + prefix_len p xs) 0 → (p x && all_by p xs) ≡ true
-  cons_all x xs true e ih h = and_from (p x) (all_by p xs) e (ih (omega arith))
-  cons_all x xs false e ih h = absurd (omega arith)
+next_of : (t : Bool) (n : ℕ) → cond t (Some (n + 1)) None ≡ option_map (λ i. i + 1) (cond t (Some n) None)
+next_of true n = refl
+next_of false n = refl
 
-  all_pass_lem : (xs : List X) → length xs ≤ prefix_len p xs → all_by p xs ≡ true
-  all_pass_lem [] h = refl
-  all_pass_lem (x ∷ xs) h = cons_all x xs (p x) refl (all_pass_lem xs) h
+-- it is numbered one more than its place
+pub first_open_at : (ts : List Ticket) → first_open ts ≡ option_map (λ i. i + 1) (position (λ t. not t.reported) ts)
+first_open_at ts = ap (λ n. cond (ltb n (length ts)) (Some (n + 1)) None) (before_first (λ t. t.reported) ts) ∙ next_of (ltb (position_or_len (λ t. not t.reported) ts) (length ts)) (position_or_len (λ t. not t.reported) ts)
 
 module _ (e : Engine) (h : Held) where
   abbrev ts : List Ticket
   ts = tickets_in e h
+
+  all_pass : length ts ≤ prefix_len (λ x. x.reported) ts → all_by (λ x. x.reported) ts ≡ true
+  all_pass h = and_from_places (all_by (λ x. x.reported)) (λ x. x.reported) refl (λ _ _. refl) ts empty_ticket (λ i l. prefix_len_passes (λ x. x.reported) ts i empty_ticket (omega arith))
 
   open_by : (t : Bool) → ltb (prefix_len (λ x. x.reported) ts) (length ts) ≡ t → OpenTicket e h (cond t (Some (prefix_len (λ x. x.reported) ts + 1)) None)
   open_by true k =
       let n : ℕ = prefix_len (λ x. x.reported) ts in
       let within : n < length ts = ltb-true n (length ts) k in
       let place : (n + 1) - 1 ≡ n = omega arith in
-      (and_from (leb 1 (n + 1)) (leb (n + 1) (length ts)) (le-leb 1 (n + 1) (omega arith)) (le-leb (n + 1) (length ts) (omega arith)), ap (λ i. (get_or ts i empty_ticket).reported) place ∙ stops (λ x. x.reported) ts empty_ticket within)
-  open_by false k = all_pass_lem (λ x. x.reported) ts (ltb-false (prefix_len (λ x. x.reported) ts) (length ts) k)
+      (and_from (leb 1 (n + 1)) (leb (n + 1) (length ts)) (le-leb 1 (n + 1) (omega arith)) (le-leb (n + 1) (length ts) (omega arith)), ap (λ i. (get_or ts i empty_ticket).reported) place ∙ prefix_len_stops (λ x. x.reported) ts empty_ticket within)
+  open_by false k = all_pass (ltb-false (prefix_len (λ x. x.reported) ts) (length ts) k)
 
   answer_by : (t : Bool) → sizes_fit h ≡ t → Outstanding e h (cond t (Ok (first_open ts)) (Err TableSizes))
   answer_by true k = open_by (ltb (prefix_len (λ x. x.reported) ts) (length ts)) refl

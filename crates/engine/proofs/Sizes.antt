@@ -149,7 +149,7 @@ module _ (e : Engine) (m : Market) (h : Held) (long : Sizes h) (fit : quotes_fit
       (λ _. record { buys = refl; sells = length_handed with_out _ h.sells; bids = refl; offers = refl; tickets = length_written (sell_tickets e m h p) h.tickets (sells_few p) })
 
   close_sizes : (time : ℕ) (x : Outcome) → SameSizes (close e m h time x).held h
-  close_sizes time (Ok x) = sizes_on (routed_sizes x.0) quotes_sizes
+  close_sizes time (Ok x) = sizes_on (routed_sizes x.price) quotes_sizes
   close_sizes time (Err Halted) = rests_sizes h
   close_sizes time (Err LockedOrCrossed) = quotes_sizes
   close_sizes time (Err NothingToTrade) = quotes_sizes

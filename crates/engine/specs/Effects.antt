@@ -202,9 +202,9 @@ close e m h time (Err LockedOrCrossed) = unpriced e m h time LockedOrCrossed
 close e m h time (Err NothingToTrade) = unpriced e m h time NothingToTrade
 close e m h time (Err NoReference) = unpriced e m h time NoReference
 close e m h time (Ok x) =
-    granted (staged (Satisfaction x.0 (time + ticket_time)) time (quotes_used m (length (tickets_at e m h x.0)) e.used) e)
-    (with_routed e m (with_quotes m h) x.0)
-    (Priced x.0 x.1 (length (tickets_at e m h x.0)))
+    granted (staged (Satisfaction x.price (time + ticket_time)) time (quotes_used m (length (tickets_at e m h x.price)) e.used) e)
+    (with_routed e m (with_quotes m h) x.price)
+    (Priced x.price x.count (length (tickets_at e m h x.price)))
 
 -- report: the ticket is marked, and settled on its order: what is not filled rests again, or is late once matched
 abbrev pub reported : Ticket → Ticket

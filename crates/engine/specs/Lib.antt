@@ -5,6 +5,7 @@ pub mod Stages
 pub mod Answers
 pub mod Questions
 pub mod Outstanding
+pub mod Lent
 pub mod Books
 pub mod Effects
 pub mod Steps

@@ -1,5 +1,6 @@
 -- The questions put before each call, in their order. The first "no" refuses, and a call is refused in no other case.
 use Rattle.std.specs.Prelude.{ℕ, ◌+◌, ◌-◌, Bool, true, false, cond, not, ◌&&◌, ◌||◌, List, [], ◌∷◌, length, is_some, Some, None, Option, ◌==◌, nat_le, nat_lt, slice_index_or}
+use Rattle.market.specs.declared.side.Side.{Side}
 use Rattle.market.specs.declared.side.Side.TheVariants.{Buy, Sell}
 use Rattle.market.specs.declared.refusal.Refusal.{Refusal}
 use Rattle.market.specs.declared.refusal.Refusal.TheVariants.{TableSizes, WrongStage, TimeRange, Quotes, TradingHalted, NoMarket, OrderForm, ShortSale, StartSize, StartReach, StartTime, NoRouting, AcceptanceLength, NumberTaken, SideFull, UnknownOrder, NoRest, CloseEarly, LastSale, UnknownTicket, TicketReported, TicketFills, TicketsOut}
@@ -102,6 +103,14 @@ begin_questions e m time order facts =
     ∷ asks facts.routing NoRouting
     ∷ asks (acceptance_fits facts) AcceptanceLength
     ∷ []
+
+-- where an order stands: on the buys, else on the sells
+abbrev pub at_side : Side → Option ℕ → Option (Side × ℕ)
+at_side side None = None
+at_side side (Some place) = Some (side, place)
+
+abbrev pub stands_at : ℕ → List OrderRow → List OrderRow → Option (Side × ℕ)
+stands_at number buys sells = cond (is_some (place_of number buys)) (at_side Buy (place_of number buys)) (at_side Sell (place_of number sells))
 
 -- an order's number stands on a side of the book
 abbrev pub on_book : Engine → Held → ℕ → Bool

@@ -28,8 +28,8 @@ pub enum Answer {
     },
 }
 
-// What a close answers in numbers; price, count and tickets are 0 unless the cause is 0.
-#[derive(Clone, Copy)]
+// What a close answers in numbers, as a call from C takes it; price, count and tickets are 0 unless the cause is 0.
+#[derive(Clone, Copy, Debug, Default, PartialEq, Eq)]
 pub struct Closing {
     pub cause: u32,
     pub price: u32,
@@ -38,7 +38,7 @@ pub struct Closing {
 }
 
 impl Answer {
-    // The shares that a cancel, a match or an abort answers; 0 of another call.
+    // The shares that a cancel, a match or an abort answers; 0 of another call, since a call from C takes a number.
     pub fn shares(self) -> u64
         ensures { result ≡ shares_in self }
     {
@@ -53,20 +53,22 @@ impl Answer {
     pub fn closing(self) -> Closing
         ensures { result ≡ closing_in self }
     {
-        let (cause, price, count, tickets) = match self {
+        match self {
             Answer::Priced {
                 price,
                 count,
                 tickets,
-            } => (0, price, count, tickets),
-            Answer::Unpriced { cause } => (cause.number(), 0, 0, 0),
-            _ => (0, 0, 0, 0),
-        };
-        Closing {
-            cause,
-            price,
-            count,
-            tickets,
+            } => Closing {
+                cause: 0,
+                price,
+                count,
+                tickets,
+            },
+            Answer::Unpriced { cause } => Closing {
+                cause: u32::from(cause),
+                ..Closing::default()
+            },
+            _ => Closing::default(),
         }
     }
 }

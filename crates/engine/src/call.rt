@@ -2,7 +2,7 @@
 use orders::order::Order;
 
 // What the venue knows of the market as it begins a cycle.
-#[derive(Clone, Copy)]
+#[derive(Clone, Copy, Debug, PartialEq, Eq)]
 pub struct Facts {
     // The start order is a short sale under restriction.
     pub short_sale: bool,
@@ -13,7 +13,7 @@ pub struct Facts {
     pub acceptance: u32,
 }
 
-#[derive(Clone, Copy)]
+#[derive(Clone, Copy, Debug, PartialEq, Eq)]
 pub enum Call {
     Begin {
         time: u32,
@@ -28,6 +28,7 @@ pub enum Call {
     },
     Close {
         time: u32,
+        // The last sale that the venue knows; 0 says that there is none, as the exported pricing takes it.
         last_sale: u32,
     },
     Report {

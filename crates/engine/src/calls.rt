@@ -1,18 +1,41 @@
-// The public call: the engine matches its own stage together with the call.
+// The public call: its questions first, and where none is answered "no", what it does.
+ghost use Rattle.std.specs.Prelude.{◌≡◌, None};
+ghost use Rattle.market.specs.Questions.{first_no};
 ghost use Rattle.engine.specs.States.{held, SameTables};
-ghost use Rattle.engine.specs.Effects.{left};
+ghost use Rattle.engine.specs.Lent.{held_in, SameFitted};
+ghost use Rattle.engine.specs.Questions.{questions};
+ghost use Rattle.engine.specs.Effects.{granted, left};
 ghost use Rattle.engine.specs.Steps.{Called, SameSizes, Untouched, Unread};
 
 use crate::answer::Answer;
 use crate::call::Call;
-use crate::stage::Stage;
+use crate::fitted::Fitted;
 use crate::state::Engine;
 use crate::tables::Tables;
 use market::refusal::Refusal;
 use market::source::QuoteSource;
 
 impl Engine {
-    // What a call does at this stage.
+    // What a call does that is not refused.
+    fn grant<S: QuoteSource>(&mut self, call: Call, source: &S, tables: &mut Fitted<'_>) -> Answer
+        requires { first_no (questions self.old (S.meaning source.now) (held_in tables.old) call) ≡ None }
+        ensures called { Called self.old (S.meaning source.now) (held_in tables.old) call (granted self.new (held_in tables.new) result) }
+        ensures names { SameFitted tables.old tables.new }
+    {
+        // The calls are a closed list, each with arguments of its own.
+        match call {
+            Call::Begin { time, order, facts } => self.begin(time, order, facts, tables),
+            Call::Enter { order } => self.enter(order, tables),
+            Call::Cancel { number } => self.cancel(number, tables),
+            Call::Close { time, last_sale } => self.close(time, last_sale, source, tables),
+            Call::Report { ticket, filled } => self.report(ticket, filled, tables),
+            Call::Match { time } => self.match_sides(time, tables),
+            Call::Finish { time } => self.finish(time),
+            Call::Abort { time } => self.abort(time, tables),
+        }
+    }
+
+    // What a call does, refused or not.
     fn turn<S: QuoteSource>(
         &mut self,
         call: Call,
@@ -22,33 +45,15 @@ impl Engine {
         ensures called { Called self.old (S.meaning source.now) (held tables.old) call (left self.new tables.new result) }
         ensures names { SameTables tables.old tables.new }
     {
-        if !tables.sizes_fit() {
-            return Err(Refusal::TableSizes);
-        }
-        match (self.stage, call) {
-            (Stage::Open, Call::Begin { time, order, facts }) => {
-                self.begin(time, order, facts, source, tables)
-            }
-            (Stage::Acceptance { .. }, Call::Enter { order }) => self.enter(order, tables),
-            (Stage::Acceptance { .. }, Call::Cancel { number }) => self.cancel(number, tables),
-            (Stage::Acceptance { .. }, Call::Close { time, last_sale }) => {
-                self.close(time, last_sale, source, tables)
-            }
-            (Stage::Satisfaction { .. }, Call::Report { ticket, filled }) => {
-                self.report(ticket, filled, false, tables)
-            }
-            (Stage::Matched, Call::Report { ticket, filled }) => {
-                self.report(ticket, filled, true, tables)
-            }
-            (Stage::Satisfaction { price, .. }, Call::Match { time }) => {
-                self.match_sides(price, time, tables)
-            }
-            (Stage::Matched, Call::Finish { time }) => self.finish(time, tables),
-            (Stage::Acceptance { .. }, Call::Abort { time }) => self.abort(time, tables),
-            (Stage::Satisfaction { .. }, Call::Abort { time }) => self.abort(time, tables),
-            (Stage::Matched, Call::Abort { time }) => self.abort(time, tables),
-            _ => Err(Refusal::WrongStage),
-        }
+        self.may_turn(call, source, tables)?;
+        let mut tables = Fitted {
+            buys: &mut *tables.buys,
+            sells: &mut *tables.sells,
+            bids: &mut *tables.bids,
+            offers: &mut *tables.offers,
+            tickets: &mut *tables.tickets,
+        };
+        Ok(self.grant(call, source, &mut tables))
     }
 
     // Takes a call: it is refused by the first "no" of its questions, and then the engine and every table are as they

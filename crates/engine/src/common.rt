@@ -1,17 +1,19 @@
 // Questions about the tables that several calls ask.
-ghost use Rattle.std.specs.Prelude.{◌≡◌, ◌&&◌, slice_index_or};
+ghost use Rattle.std.specs.Prelude.{◌≡◌, ◌-◌, ◌&&◌, length, take, is_some, IfSome, nat_le, slice_index_or};
+ghost use Rattle.std.specs.Result.{result_err};
 ghost use Rattle.market.specs.Fits.{all_by};
 ghost use Rattle.market.specs.Questions.{first_no};
 ghost use Rattle.routing.specs.Tickets.{empty_ticket};
-ghost use Rattle.orders.specs.Rows.{empty_row};
 ghost use Rattle.orders.specs.Tables.{available};
 ghost use Rattle.engine.specs.States.{held, tickets_in};
-ghost use Rattle.engine.specs.Questions.{sizes_fit, on_book, rest_at, rest_of, ticket_at, report_questions};
+ghost use Rattle.engine.specs.Questions.{sizes_fit, stands_at, on_book, rest_of, report_questions};
 
+use crate::fitted::Fitted;
 use crate::limits::{ORDER_ROWS, QUOTE_ROWS, TICKET_ROWS};
 use crate::state::Engine;
 use crate::tables::Tables;
 use market::refusal::Refusal;
+use market::side::Side;
 use orders::record::OrderRecord;
 use orders::row::OrderRow;
 use orders::side::find;
@@ -31,59 +33,42 @@ impl Tables<'_> {
     }
 }
 
-impl Engine {
-    // Whether an order's number stands on a side of the book.
-    pub(crate) fn is_on_book(&self, tables: &Tables<'_>, number: u32) -> bool
-        ensures { result ≡ on_book self.now (held tables.now) number }
-    {
-        let buys = first_rows(&*tables.buys, self.used.buys);
-        if find(buys, number).is_some() {
-            return true;
-        }
-        let sells = first_rows(&*tables.sells, self.used.sells);
-        find(sells, number).is_some()
-    }
-}
-
-// The row at a place; an empty one past the end.
-fn row_at(rows: &[OrderRow], place: usize) -> OrderRow
-    ensures { result ≡ slice_index_or rows.now place empty_row }
+// Where an order stands: on the buys, else on the sells.
+pub(crate) fn place_in(buys: &[OrderRow], sells: &[OrderRow], number: u32) -> Option<(Side, usize)>
+    ensures { result ≡ stands_at number buys.now sells.now }
 {
-    if place < rows.len() {
-        rows[place]
-    } else {
-        OrderRow::empty()
+    if let Some(place) = find(buys, number) {
+        return Some((Side::Buy, place));
     }
+    find(sells, number).map(|place| (Side::Sell, place))
 }
 
 // The rest that can be moved: none where the counts of the row do not add up.
-fn rest_of_row(row: OrderRow) -> u32
+fn rest_of(row: OrderRow) -> u32
     ensures { result ≡ available row }
 {
-    match OrderRecord::of(row) {
-        Some(_) => row.rest,
-        None => 0,
-    }
+    OrderRecord::try_from(row).map_or(0, |_| row.rest)
 }
 
-// The rest of the row at a place that was found, if one was.
-fn rest_at(rows: &[OrderRow], place: Option<usize>) -> u32
-    ensures { result ≡ rest_at place rows.now }
+// The ticket with a number, counted from 1, among the first `used`, if there is one.
+fn ticket_with(tickets: &[Ticket], used: usize, number: u32) -> Option<Ticket>
+    ensures found { is_some result ≡ (nat_le 1 number && nat_le number (length (take used tickets.now))) }
+    ensures ticket { IfSome result (λ ticket. ticket ≡ slice_index_or (take used tickets.now) (number - 1) empty_ticket) }
 {
-    match place {
-        Some(place) => rest_of_row(row_at(rows, place)),
-        None => 0,
-    }
+    let place = number.checked_sub(1)?;
+    first_rows(tickets, used).get(place as usize).copied()
 }
 
-// The ticket at a place; an empty one past the end.
-fn ticket_at(tickets: &[Ticket], place: usize) -> Ticket
-    ensures { result ≡ slice_index_or tickets.now place empty_ticket }
-{
-    if place < tickets.len() {
-        tickets[place]
-    } else {
-        Ticket::empty()
+impl Fitted<'_> {
+    // The ticket with a number among the first `used`, an empty one where there is none.
+    // (By the definition 0 stands for the first one, so it is not `ticket_with`.)
+    pub(crate) fn ticket(&self, used: usize, number: u32) -> Ticket
+        ensures { result ≡ slice_index_or (take used self.now.tickets.now) (number - 1) empty_ticket }
+    {
+        first_rows(&*self.tickets, used)
+            .get(number.saturating_sub(1) as usize)
+            .copied()
+            .unwrap_or_default()
     }
 }
 
@@ -91,57 +76,42 @@ fn ticket_at(tickets: &[Ticket], place: usize) -> Ticket
 fn all_reported(tickets: &[Ticket]) -> bool
     ensures { result ≡ all_by (λ t. t.reported) tickets.now }
 {
-    for ticket in tickets {
-        if !ticket.reported {
-            return false;
-        }
-    }
-    true
+    tickets.iter().all(|ticket| ticket.reported)
 }
 
 impl Engine {
-    // The rest of the order with a number.
-    pub(crate) fn rest_of(&self, tables: &Tables<'_>, number: u32) -> u32
-        ensures { result ≡ rest_of self.now (held tables.now) number }
+    // The rest of the order with a number, where it stands on a side of the book.
+    pub(crate) fn rest(&self, tables: &Tables<'_>, number: u32) -> Option<u32>
+        ensures found { is_some result ≡ on_book self.now (held tables.now) number }
+        ensures rest { IfSome result (λ rest. rest ≡ rest_of self.now (held tables.now) number) }
     {
         let buys = first_rows(&*tables.buys, self.used.buys);
-        let place = find(buys, number);
-        if place.is_some() {
-            return rest_at(buys, place);
-        }
         let sells = first_rows(&*tables.sells, self.used.sells);
-        rest_at(sells, find(sells, number))
+        let row = match place_in(buys, sells, number)? {
+            (Side::Buy, place) => buys[place],
+            (Side::Sell, place) => sells[place],
+        };
+        Some(rest_of(row))
     }
 
-    // The ticket with a number, counted from 1; an empty one where there is none.
-    pub(crate) fn ticket(&self, tables: &Tables<'_>, number: u32) -> Ticket
-        ensures { result ≡ ticket_at self.now (held tables.now) number }
-    {
-        let tickets = first_rows(&*tables.tickets, self.used.tickets);
-        ticket_at(tickets, number.saturating_sub(1) as usize)
-    }
-
-    // The refusal of a report, if any.
-    pub(crate) fn report_refusal(
+    // Whether a report may come.
+    pub(crate) fn may_report(
         &self,
         tables: &Tables<'_>,
         number: u32,
         filled: u32,
-    ) -> Option<Refusal>
-        ensures { result ≡ first_no (report_questions self.now (held tables.now) number filled) }
+    ) -> Result<(), Refusal>
+        ensures { result_err result ≡ first_no (report_questions self.now (held tables.now) number filled) }
     {
-        let tickets = first_rows(&*tables.tickets, self.used.tickets);
-        if number < 1 || number as usize > tickets.len() {
-            return Some(Refusal::UnknownTicket);
-        }
-        let ticket = self.ticket(tables, number);
+        let found = ticket_with(&*tables.tickets, self.used.tickets, number);
+        let ticket = found.ok_or(Refusal::UnknownTicket)?;
         if ticket.reported {
-            return Some(Refusal::TicketReported);
+            return Err(Refusal::TicketReported);
         }
         if filled > ticket.shares {
-            return Some(Refusal::TicketFills);
+            return Err(Refusal::TicketFills);
         }
-        None
+        Ok(())
     }
 
     // Whether every ticket of the cycle is reported.

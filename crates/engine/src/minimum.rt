@@ -5,7 +5,7 @@ ghost use Rattle.engine.specs.Minimum.{ordinary_minimum, minimum};
 use crate::stage::Issue;
 
 // From a price up, this many shares.
-#[derive(Clone, Copy)]
+#[derive(Clone, Copy, Debug, PartialEq, Eq)]
 pub(crate) struct Step {
     pub(crate) price: u32,
     pub(crate) shares: u32,
@@ -42,6 +42,9 @@ const STEPS: [Step; 7] = [
     },
 ];
 
+// Below the first step.
+const LOWEST: u32 = 100_000;
+
 // A special issue has one minimum at every price.
 const SPECIAL: u32 = 100;
 
@@ -49,13 +52,11 @@ const SPECIAL: u32 = 100;
 fn ordinary_minimum(price: u32) -> u32
     ensures { result ≡ ordinary_minimum price }
 {
-    let mut shares = 100_000;
-    for i in 0..STEPS.len() {
-        if STEPS[i].price <= price {
-            shares = STEPS[i].shares;
-        }
-    }
-    shares
+    STEPS
+        .iter()
+        .rev()
+        .find(|step| step.price <= price)
+        .map_or(LOWEST, |step| step.shares)
 }
 
 pub fn minimum_size(issue: Issue, price: u32) -> u32

@@ -1,8 +1,8 @@
 // A ticket that is not yet reported.
-ghost use Rattle.std.specs.Prelude.{◌≡◌};
-ghost use Rattle.std.specs.List.{prefix_len};
+ghost use Rattle.std.specs.Prelude.{◌≡◌, ◌≤◌, not, length};
+ghost use Rattle.std.specs.List.{position};
 ghost use Rattle.engine.specs.States.{held};
-ghost use Rattle.engine.specs.Outstanding.{outstanding_of, Outstanding};
+ghost use Rattle.engine.specs.Outstanding.{first_open, outstanding_of, Outstanding};
 
 use crate::state::Engine;
 use crate::tables::Tables;
@@ -10,16 +10,21 @@ use market::refusal::Refusal;
 use ranking::rows::first_rows;
 use routing::ticket::Ticket;
 
-// How many tickets are reported before the first that is not.
-fn reported_before(tickets: &[Ticket]) -> usize
-    ensures { result ≡ prefix_len (λ t. t.reported) tickets.now }
+// The place of the first ticket that is not reported, if any.
+fn first_place(tickets: &[Ticket]) -> Option<usize>
+    ensures { result ≡ position (λ t. not t.reported) tickets.now }
 {
-    for (place, ticket) in tickets.iter().enumerate() {
-        if !ticket.reported {
-            return place;
-        }
-    }
-    tickets.len()
+    tickets.iter().position(|ticket| !ticket.reported)
+}
+
+// Its number, counted from 1.
+#[tactic(auto, using(crate::proofs::Opens::first_open_at))]
+fn first_open(tickets: &[Ticket]) -> Option<u32>
+    requires { length tickets.now ≤ 544 }
+    ensures { result ≡ first_open tickets.now }
+{
+    let place = first_place(tickets)?;
+    Some(place as u32 + 1)
 }
 
 impl Engine {
@@ -29,12 +34,7 @@ impl Engine {
         if !tables.sizes_fit() {
             return Err(Refusal::TableSizes);
         }
-        let tickets = first_rows(&*tables.tickets, self.used.tickets);
-        let before = reported_before(tickets);
-        if before >= tickets.len() {
-            return Ok(None);
-        }
-        Ok(Some(before as u32 + 1))
+        Ok(first_open(first_rows(&*tables.tickets, self.used.tickets)))
     }
 
     // The number of the first ticket that is not yet reported, or none where all are; refused where the tables have

@@ -3,7 +3,7 @@ ghost use Rattle.std.specs.Prelude.{◌≡◌};
 ghost use Rattle.engine.specs.Answers.{stage_number};
 ghost use Rattle.engine.specs.Stages.{is_open, is_acceptance, is_satisfaction, is_matched};
 
-#[derive(Clone, Copy)]
+#[derive(Clone, Copy, Debug, PartialEq, Eq)]
 pub enum Stage {
     Open,
     // Orders are taken until it may be closed, at this time or later.
@@ -14,57 +14,48 @@ pub enum Stage {
 }
 
 // What kind of issue is traded; it settles the minimum size of a start order.
-#[derive(Clone, Copy)]
+#[derive(Clone, Copy, Debug, PartialEq, Eq)]
 pub enum Issue {
     Ordinary,
     Special,
 }
 
-impl Stage {
-    pub fn number(self) -> u32
-        ensures { result ≡ stage_number self }
-    {
-        match self {
+// The number of a stage, in the order of a cycle.
+impl From<Stage> for u32 {
+    ghost from_gives = { λ stage number. number ≡ stage_number stage };
+
+    fn from(stage: Stage) -> u32 {
+        match stage {
             Stage::Open => 0,
             Stage::Acceptance { .. } => 1,
             Stage::Satisfaction { .. } => 2,
             Stage::Matched => 3,
         }
     }
+}
 
+impl Stage {
     pub fn is_open(self) -> bool
         ensures { result ≡ is_open self }
     {
-        match self {
-            Stage::Open => true,
-            _ => false,
-        }
+        matches!(self, Stage::Open)
     }
 
     pub fn is_acceptance(self) -> bool
         ensures { result ≡ is_acceptance self }
     {
-        match self {
-            Stage::Acceptance { .. } => true,
-            _ => false,
-        }
+        matches!(self, Stage::Acceptance { .. })
     }
 
     pub fn is_satisfaction(self) -> bool
         ensures { result ≡ is_satisfaction self }
     {
-        match self {
-            Stage::Satisfaction { .. } => true,
-            _ => false,
-        }
+        matches!(self, Stage::Satisfaction { .. })
     }
 
     pub fn is_matched(self) -> bool
         ensures { result ≡ is_matched self }
     {
-        match self {
-            Stage::Matched => true,
-            _ => false,
-        }
+        matches!(self, Stage::Matched)
     }
 }

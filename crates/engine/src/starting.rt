@@ -1,7 +1,10 @@
 // The questions before a cycle begins.
-ghost use Rattle.std.specs.Prelude.{◌≡◌};
+ghost use Rattle.std.specs.Prelude.{◌≡◌, ◌+◌, [], ◌∷◌, Some, nat_le};
+ghost use Rattle.std.specs.Result.{result_err};
 ghost use Rattle.market.specs.Questions.{first_no};
-ghost use Rattle.engine.specs.Questions.{time_fits, two_sided, reaches, long_ago, start_time_fits, acceptance_fits, begin_questions};
+ghost use Rattle.market.specs.Sides.{side_numbered};
+ghost use Rattle.market.specs.declared.refusal.Refusal.TheVariants.{TimeRange};
+ghost use Rattle.engine.specs.Questions.{time_fits, two_sided, reaches, start_time_fits, acceptance_fits, begin_questions};
 
 use crate::call::Facts;
 use crate::limits::{
@@ -14,122 +17,112 @@ use market::fit::quotes_fit;
 use market::refusal::Refusal;
 use market::side::Side;
 use market::source::QuoteSource;
-use orders::order::{Order, well_formed};
+use orders::order::Order;
 
 // A bid and an offer, and no bid above an offer.
 fn is_two_sided<S: QuoteSource>(source: &S) -> bool
     ensures { result ≡ two_sided (S.meaning source.now) }
 {
-    match (
-        best_price(source, Side::Buy),
-        best_price(source, Side::Sell),
-    ) {
-        (Some(bid), Some(offer)) => bid <= offer,
-        _ => false,
-    }
+    best_price(source, Side::Buy)
+        .zip(best_price(source, Side::Sell))
+        .is_some_and(|(bid, offer)| bid <= offer)
 }
 
 // A buy reaches the best offer, a sell the best bid.
-fn reaches_quote<S: QuoteSource>(order: Order, source: &S) -> bool
+fn reaches_quote<S: QuoteSource>(side: Side, order: Order, source: &S) -> bool
+    requires { side_numbered order.side ≡ Some side }
     ensures { result ≡ reaches order (S.meaning source.now) }
 {
-    if order.side == 1 {
-        match best_price(source, Side::Sell) {
-            Some(offer) => offer <= order.price,
-            None => false,
-        }
-    } else {
-        match best_price(source, Side::Buy) {
-            Some(bid) => order.price <= bid,
-            None => false,
-        }
+    match side {
+        Side::Buy => best_price(source, Side::Sell).is_some_and(|offer| offer <= order.price),
+        Side::Sell => best_price(source, Side::Buy).is_some_and(|bid| order.price <= bid),
     }
 }
 
-// Whether something came at least `age` before `time`; what is said where it never came.
-fn is_long_ago(age: u32, then: Option<u32>, time: u32, unknown: bool) -> bool
-    ensures { result ≡ long_ago age then time unknown }
+// Whether what came at `then` came at least `age` before `time`.
+fn is_long_ago(age: u32, then: u32, time: u32) -> bool
+    ensures { result ≡ nat_le (then + age) time }
 {
-    match then {
-        Some(then) => then as u64 + age as u64 <= time as u64,
-        None => unknown,
-    }
+    u64::from(then) + u64::from(age) <= u64::from(time)
 }
 
 impl Engine {
     // A time of the day, not before the last accepted one.
-    pub(crate) fn time_fits(&self, time: u32) -> bool
+    fn time_fits(&self, time: u32) -> bool
         ensures { result ≡ time_fits self.now time }
     {
-        if time > DAY_END {
-            return false;
+        time <= DAY_END && self.last_time.is_none_or(|last| last <= time)
+    }
+
+    // Whether a call may come at a time.
+    pub(crate) fn may_come(&self, time: u32) -> Result<(), Refusal>
+        ensures { result_err result ≡ first_no (record { yes = time_fits self.now time; refusal = TimeRange } ∷ []) }
+    {
+        if !self.time_fits(time) {
+            return Err(Refusal::TimeRange);
         }
-        match self.last_time {
-            Some(last) => last <= time,
-            None => true,
-        }
+        Ok(())
     }
 
     fn start_time_fits(&self, time: u32, facts: Facts) -> bool
         ensures { result ≡ start_time_fits self.now time facts }
     {
-        time >= FIRST_START
-            && time <= LAST_START
-            && is_long_ago(QUOTE_AGE, facts.first_quote, time, false)
-            && is_long_ago(CYCLE_GAP, self.last_end, time, true)
+        (FIRST_START..=LAST_START).contains(&time)
+            && facts
+                .first_quote
+                .is_some_and(|then| is_long_ago(QUOTE_AGE, then, time))
+            && self
+                .last_end
+                .is_none_or(|then| is_long_ago(CYCLE_GAP, then, time))
     }
 }
 
 fn acceptance_fits(facts: Facts) -> bool
     ensures { result ≡ acceptance_fits facts }
 {
-    facts.acceptance >= SHORTEST_ACCEPTANCE && facts.acceptance <= LONGEST_ACCEPTANCE
+    (SHORTEST_ACCEPTANCE..=LONGEST_ACCEPTANCE).contains(&facts.acceptance)
 }
 
 impl Engine {
-    // The refusal of a begin, if any.
-    pub(crate) fn begin_refusal<S: QuoteSource>(
+    // Whether a begin may come.
+    pub(crate) fn may_begin<S: QuoteSource>(
         &self,
         source: &S,
         time: u32,
         order: Order,
         facts: Facts,
-    ) -> Option<Refusal>
-        ensures { result ≡ first_no (begin_questions self.now (S.meaning source.now) time order facts) }
+    ) -> Result<(), Refusal>
+        ensures { result_err result ≡ first_no (begin_questions self.now (S.meaning source.now) time order facts) }
     {
-        if !self.time_fits(time) {
-            return Some(Refusal::TimeRange);
-        }
+        self.may_come(time)?;
         if !quotes_fit(source) {
-            return Some(Refusal::Quotes);
+            return Err(Refusal::Quotes);
         }
         if source.halted() {
-            return Some(Refusal::TradingHalted);
+            return Err(Refusal::TradingHalted);
         }
         if !is_two_sided(source) {
-            return Some(Refusal::NoMarket);
+            return Err(Refusal::NoMarket);
         }
-        if well_formed(order).is_none() {
-            return Some(Refusal::OrderForm);
-        }
+        let (side, _) = order.well_formed().ok_or(Refusal::OrderForm)?;
         if facts.short_sale {
-            return Some(Refusal::ShortSale);
+            return Err(Refusal::ShortSale);
         }
         if order.shares < minimum_size(self.issue, order.price) {
-            return Some(Refusal::StartSize);
+            return Err(Refusal::StartSize);
         }
-        if !reaches_quote(order, source) {
-            return Some(Refusal::StartReach);
+        if !reaches_quote(side, order, source) {
+            return Err(Refusal::StartReach);
         }
         if !self.start_time_fits(time, facts) {
-            return Some(Refusal::StartTime);
+            return Err(Refusal::StartTime);
         }
         if !facts.routing {
-            return Some(Refusal::NoRouting);
+            return Err(Refusal::NoRouting);
         }
         if !acceptance_fits(facts) {
-            return Some(Refusal::AcceptanceLength);
+            return Err(Refusal::AcceptanceLength);
         }
-        None
+        Ok(())
     }
 }

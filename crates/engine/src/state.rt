@@ -1,11 +1,11 @@
 // The engine's own state.
 ghost use Rattle.std.specs.Prelude.{◌≡◌};
-ghost use Rattle.engine.specs.States.{none_used, made};
+ghost use Rattle.engine.specs.States.{made};
 
 use crate::stage::{Issue, Stage};
 
-// How many rows of each table are in use.
-#[derive(Clone, Copy)]
+// How many rows of each table are in use: the rows are lent by the caller, so they are counted here.
+#[derive(Clone, Copy, Debug, Default, PartialEq, Eq)]
 pub struct Used {
     pub buys: usize,
     pub sells: usize,
@@ -14,21 +14,7 @@ pub struct Used {
     pub tickets: usize,
 }
 
-impl Used {
-    pub(crate) fn none() -> Used
-        ensures { result ≡ none_used }
-    {
-        Used {
-            buys: 0,
-            sells: 0,
-            bids: 0,
-            offers: 0,
-            tickets: 0,
-        }
-    }
-}
-
-#[derive(Clone, Copy)]
+#[derive(Clone, Copy, Debug, PartialEq, Eq)]
 pub struct Engine {
     pub(crate) issue: Issue,
     pub(crate) stage: Stage,
@@ -48,7 +34,7 @@ impl Engine {
             stage: Stage::Open,
             last_time: None,
             last_end: None,
-            used: Used::none(),
+            used: Used::default(),
         }
     }
 

@@ -1,12 +1,12 @@
 -- Lists made from a function of the place: the item at a place, and the steps of loops over them.
-use Rattle.std.proofs.Common.{◌≡◌, ℕ, ◌+◌, ◌<◌, ◌≤◌, min, Bool, true, false, cond, leb, List, [], ◌∷◌, ◌++◌, map, drop, Some, None, refl, ap, ◌∙◌, arith}
-use Rattle.std.specs.List.{slice_get, range_with_len}
-use Rattle.std.proofs.lemmas.List.{at_drop_more}
-use Rattle.std.proofs.lemmas.Option.{slice_get-get_or, slice_get_past}
-use Rattle.std.proofs.lemmas.List.FromFn.{length-map-range_with_len, get_or-map-range_with_len, map-range_with_len_more, sum_by-map-range_with_len_more}
+use Rattle.std.proofs.Common.{◌≡◌, ℕ, ◌+◌, ◌<◌, ◌≤◌, Bool, List, [], ◌∷◌, map, length, get_or, drop, Some, None, refl, inl, inr, ◌&&◌, ap, ◌∙◌, arith}
+use Rattle.std.specs.List.{slice_get, range_with_len, list_all}
+use Rattle.std.proofs.lemmas.List.{at_drop_more, drop_all}
+use Rattle.std.proofs.lemmas.Option.{slice_get-get_or, slice_get_past, slice_get_within, slice_get_cases}
+use Rattle.std.proofs.lemmas.List.FromFn.{length-map-range_with_len, get_or-map-range_with_len}
+use Rattle.market.specs.Fits.{all_by}
 use Rattle.pricing.specs.declared.level.Level.{Level}
-use Rattle.pricing.specs.Books.{at_or_above, at_or_below}
-use Rattle.pricing.specs.Ranges.{standing, next_above}
+use Rattle.image.specs.Entries.{level_at, quote_at, length_in, levels_in, quotes_in}
 
 module _ {X : Type 0} (f : ℕ → X) (n i : ℕ) where
   pub nth_counted : i < n → slice_get (map f (range_with_len 0 n)) i ≡ Some (f i)
@@ -25,33 +25,36 @@ module _ {X : Type 0} (f : ℕ → X) (n i : ℕ) where
       let e = length-map-range_with_len f 0 n in
       at_drop_more F (map f (range_with_len 0 n)) i (f i) (omega arith) ∙ ap (λ y. F (y ∷ drop (i + 1) (map f (range_with_len 0 n)))) (get_or-map-range_with_len f 0 n i i (f i) h (omega arith))
 
--- one entry more in a sum
-module _ (f : ℕ → Level) (q i : ℕ) where
-  pub above_more : at_or_above q (map f (range_with_len 0 (i + 1))) ≡ at_or_above q (map f (range_with_len 0 i)) + cond (leb q (f i).price) (f i).shares 0
-  unfolding at_or_above
-  above_more = sum_by-map-range_with_len_more (λ l. cond (leb q l.price) l.shares 0) f 0 i i (omega arith)
+-- how many levels two parts hold
+pub levels_len : (ps ss : List ℕ) → length (levels_in ps ss) ≡ length_in ps ss
+levels_len ps ss = length-map-range_with_len (level_at ps ss) 0 (length_in ps ss)
 
-  pub below_more : at_or_below q (map f (range_with_len 0 (i + 1))) ≡ at_or_below q (map f (range_with_len 0 i)) + cond (leb (f i).price q) (f i).shares 0
-  unfolding at_or_below
-  below_more = sum_by-map-range_with_len_more (λ l. cond (leb l.price q) l.shares 0) f 0 i i (omega arith)
+-- an entry that is there, so its place lies within, and the same entry as a quote
+pub entry_within : (ps ss : List ℕ) (place : ℕ) (l : Level) → slice_get (levels_in ps ss) place ≡ Some l → place < length_in ps ss
+entry_within ps ss place l e = omega (arith, levels_len ps ss, slice_get_within (levels_in ps ss) place l e)
 
--- an entry's part of a sum is no more than its shares
-pub part_most : (t : Bool) (n : ℕ) → cond t n 0 ≤ n
-part_most true n = omega arith
-part_most false n = omega arith
+pub quote_there : (ps ss : List ℕ) (place : ℕ) (l : Level) → slice_get (levels_in ps ss) place ≡ Some l → slice_get (quotes_in ps ss) place ≡ Some (record { price = l.price; shares = l.shares; venue = place + 1 })
+quote_there ps ss place l e =
+    let h = entry_within ps ss place l e in
+    let level = nth_counted (level_at ps ss) (length_in ps ss) place h in
+    let same : level_at ps ss place ≡ l = cc in
+    nth_counted (quote_at ps ss) (length_in ps ss) place h ∙ ap (λ x. Some (record { price = x.price; shares = x.shares; venue = place + 1 })) same
 
-pub above_none : (q : ℕ) → at_or_above q [] ≡ 0
-unfolding at_or_above
-above_none q = refl
+-- what is left of a list at an item, and past its end
+pub left_more : {X : Type 0} (xs : List X) (i : ℕ) (x : X) → slice_get xs i ≡ Some x → drop i xs ≡ x ∷ drop (i + 1) xs
+left_more xs i x e =
+    let h = slice_get_within xs i x e in
+    let there = slice_get-get_or xs i x h in
+    let same : get_or xs i x ≡ x = cc in
+    at_drop_more (λ l. l) xs i x h ∙ ap (λ y. y ∷ drop (i + 1) xs) same
 
-pub below_none : (q : ℕ) → at_or_below q [] ≡ 0
-unfolding at_or_below
-below_none q = refl
+pub left_none : {X : Type 0} (xs : List X) (i : ℕ) → slice_get xs i ≡ None → drop i xs ≡ []
+left_none xs i e =
+    elim (slice_get_cases xs i).1 [
+      | inl there ↦ absurd (let z : ◌≡◌ {A = ℕ} 0 1 = (let t = there.2 in cc) in omega arith)
+      | inr past ↦ drop_all i xs past.0
+    ]
 
--- one entry more in the next price
-next_push : (q : ℕ) (ls : List Level) (l : Level) → next_above q (ls ++ l ∷ []) ≡ min (next_above q ls) (standing q l)
-next_push q [] l = omega arith
-next_push q (x ∷ ls) l = omega (arith, next_push q ls l)
-
-pub next_more : (f : ℕ → Level) (q i : ℕ) → next_above q (map f (range_with_len 0 (i + 1))) ≡ min (next_above q (map f (range_with_len 0 i))) (standing q (f i))
-next_more f q i = ap (next_above q) (map-range_with_len_more f 0 i i (omega arith)) ∙ next_push q (map f (range_with_len 0 i)) (f i)
+pub all_by_is : {X : Type 0} (p : X → Bool) (xs : List X) → list_all p xs ≡ all_by p xs
+all_by_is p [] = refl
+all_by_is p (x ∷ xs) = ap (λ b. p x && b) (all_by_is p xs)

@@ -1,12 +1,27 @@
--- The book that a reader holds.
+-- What a reader holds: the entries of a list as levels and as quotes, and the book.
+use Rattle.std.specs.Prelude.{List, drop}
+use Rattle.market.specs.declared.quote.Quote.{Quote}
 use Rattle.pricing.specs.Books.{Book}
+use Rattle.pricing.specs.declared.level.Level.{Level}
 use Rattle.image.specs.Entries.{levels_in, quotes_in}
+use Rattle.image.specs.declared.entries.Entries.{Entries}
+use Rattle.image.specs.declared.entries.Levels.{Levels}
 use Rattle.image.specs.declared.image.BookImage.{BookImage}
+
+abbrev pub levels_of : Entries → List Level
+levels_of entries = levels_in entries.prices.now entries.shares.now
+
+abbrev pub quotes_of : Entries → List Quote
+quotes_of entries = quotes_in entries.prices.now entries.shares.now
+
+-- the levels that are still to come
+abbrev pub levels_left : Levels → List Level
+levels_left left = drop left.place (levels_of left.entries)
 
 abbrev pub book_of : BookImage → Book
 book_of image = record {
-  buys = levels_in image.buys.prices.now image.buys.shares.now;
-  sells = levels_in image.sells.prices.now image.sells.shares.now;
-  bids = quotes_in image.bids.prices.now image.bids.shares.now;
-  offers = quotes_in image.offers.prices.now image.offers.shares.now;
+  buys = levels_of image.buys;
+  sells = levels_of image.sells;
+  bids = quotes_of image.bids;
+  offers = quotes_of image.offers;
 }

@@ -3,6 +3,7 @@ ghost use Rattle.std.specs.Prelude.{◌≡◌, length};
 ghost use Rattle.image.specs.Answers.{outcome_bytes, answer_bytes};
 
 use pricing::cause::Cause;
+use pricing::snap::Snap;
 
 // How long an answer is.
 pub const ANSWER: usize = 16;
@@ -18,12 +19,12 @@ fn put_numbers(out: &mut [u8], price: u32, cause: u32, count: u64)
 }
 
 // An outcome; price and count are 0 where there is no price.
-pub(crate) fn put_outcome(out: &mut [u8], outcome: Result<(u32, u64), Cause>)
+pub(crate) fn put_outcome(out: &mut [u8], outcome: Result<Snap, Cause>)
     requires { length out.old ≡ 16 }
     ensures { out.new ≡ outcome_bytes outcome }
 {
     match outcome {
-        Ok((price, count)) => put_numbers(out, price, 0, count),
-        Err(cause) => put_numbers(out, 0, cause.number(), 0),
+        Ok(Snap { price, count }) => put_numbers(out, price, 0, count),
+        Err(cause) => put_numbers(out, 0, u32::from(cause), 0),
     }
 }

@@ -1,33 +1,21 @@
 // One list of an image: the prices and the shares of its entries, as two parts of the image's bytes.
-ghost use Rattle.std.specs.Prelude.{◌≡◌, ◌+◌, ◌*◌, ◌<◌, ◌≤◌, length, if◌then◌else◌, nat_le};
+ghost use Rattle.std.specs.Prelude.{◌≡◌, ◌+◌, ◌*◌, ◌<◌, ◌≤◌, length};
+ghost use Rattle.std.specs.Iterator.{YieldsFirst, item_count};
 ghost use Rattle.std.specs.List.{slice_get};
 ghost use Rattle.market.specs.Fits.{all_by};
-ghost use Rattle.pricing.specs.Books.{levels, at_or_above, at_or_below};
+ghost use Rattle.pricing.specs.Books.{levels, executable_at};
 ghost use Rattle.pricing.specs.Ranges.{next_above};
-ghost use Rattle.image.specs.Entries.{levels_in, quotes_in, length_in, level_fits};
+ghost use Rattle.image.specs.Entries.{length_in, level_fits};
 
 use crate::words::word_at;
 use market::limits::HIGHEST_PRICE;
 use market::price::entry_fits;
 use market::quote::Quote;
+use market::side::Side;
 use pricing::level::Level;
 
 // The most entries that a list has.
 pub const MOST_ENTRIES: usize = 512;
-
-// The shares of an entry at `price` or higher, else none.
-fn shares_from(price: u32, at: u32, shares: u32) -> u64
-    ensures { result ≡ (if nat_le price at then shares else 0) }
-{
-    if at >= price { shares as u64 } else { 0 }
-}
-
-// The shares of an entry at `price` or lower, else none.
-fn shares_to(price: u32, at: u32, shares: u32) -> u64
-    ensures { result ≡ (if nat_le at price then shares else 0) }
-{
-    if at <= price { shares as u64 } else { 0 }
-}
 
 // An entry as a quote, whose venue is its place plus 1.
 fn quote_of(level: Level, place: usize) -> Quote
@@ -41,6 +29,14 @@ fn quote_of(level: Level, place: usize) -> Quote
     }
 }
 
+// Whether an entry has a permitted price and 1 to 1,000,000 shares.
+fn fits(level: Level) -> bool
+    ensures { result ≡ level_fits level }
+{
+    entry_fits(level.price, level.shares)
+}
+
+// The image's format puts all prices before all shares, so an entry's two words lie in two places.
 #[derive(Clone, Copy)]
 pub struct Entries<'a> {
     pub(crate) prices: &'a [u8],
@@ -48,8 +44,11 @@ pub struct Entries<'a> {
 }
 
 impl<'a> Entries<'a> {
+    ghost use Rattle.image.specs.Held.{levels_of, quotes_of, levels_left};
+
     pub fn len(&self) -> usize
-        ensures is { result ≡ length_in self.now.prices.now self.now.shares.now }
+        ensures is { result ≡ length (levels_of self.now) }
+        ensures sized { result ≡ length_in self.now.prices.now self.now.shares.now }
         ensures few { result ≤ 512 }
         ensures prices { 4 * result ≤ length self.now.prices.now }
         ensures shares { 4 * result ≤ length self.now.shares.now }
@@ -61,7 +60,7 @@ impl<'a> Entries<'a> {
 
     // The entry at a place, counted from 0; none past the end.
     pub fn get(&self, place: usize) -> Option<Level>
-        ensures { result ≡ slice_get (levels_in self.now.prices.now self.now.shares.now) place }
+        ensures { result ≡ slice_get (levels_of self.now) place }
     {
         if place >= self.len() {
             return None;
@@ -74,73 +73,70 @@ impl<'a> Entries<'a> {
 
     // The entry at a place as a quote, whose venue is its place plus 1.
     pub fn quote(&self, place: usize) -> Option<Quote>
-        ensures { result ≡ slice_get (quotes_in self.now.prices.now self.now.shares.now) place }
+        ensures { result ≡ slice_get (quotes_of self.now) place }
     {
-        if place >= self.len() {
-            return None;
-        }
-        let level = Level {
-            price: word_at(self.prices, place),
-            shares: word_at(self.shares, place),
-        };
+        let level = self.get(place)?;
         Some(quote_of(level, place))
     }
 
-    // The shares at a price or higher.
-    pub fn at_or_above(&self, price: u32) -> u64
-        ensures is { result ≡ at_or_above price (levels_in self.now.prices.now self.now.shares.now) }
-        ensures quoted { result ≡ at_or_above price (levels (quotes_in self.now.prices.now self.now.shares.now)) }
-        ensures few { result ≤ 4294967295 * 512 }
+    // Its entries in their order.
+    pub fn levels(&self) -> Levels<'a>
+        ensures { levels_left result ≡ levels_of self.now }
     {
-        let mut sum = 0;
-        for place in 0..self.len() {
-            let at = word_at(self.prices, place);
-            let shares = word_at(self.shares, place);
-            sum += shares_from(price, at, shares);
+        Levels {
+            entries: *self,
+            place: 0,
         }
-        sum
     }
 
-    // The shares at a price or lower.
-    pub fn at_or_below(&self, price: u32) -> u64
-        ensures is { result ≡ at_or_below price (levels_in self.now.prices.now self.now.shares.now) }
-        ensures quoted { result ≡ at_or_below price (levels (quotes_in self.now.prices.now self.now.shares.now)) }
+    // The shares that can trade at a price: `executable` of slices in the words of an iterator.
+    pub fn executable(&self, side: Side, price: u32) -> u64
+        ensures is { result ≡ executable_at side price (levels_of self.now) }
+        ensures quoted { result ≡ executable_at side price (levels (quotes_of self.now)) }
         ensures few { result ≤ 4294967295 * 512 }
     {
-        let mut sum = 0;
-        for place in 0..self.len() {
-            let at = word_at(self.prices, place);
-            let shares = word_at(self.shares, place);
-            sum += shares_to(price, at, shares);
-        }
-        sum
+        self.levels()
+            .map(|level| u64::from(level.executable(side, price)))
+            .sum()
     }
 
     // The lowest price above `price` at which shares stand, at most the highest price there is.
     pub fn next_above(&self, price: u32) -> u32
-        ensures is { result ≡ next_above price (levels_in self.now.prices.now self.now.shares.now) }
-        ensures quoted { result ≡ next_above price (levels (quotes_in self.now.prices.now self.now.shares.now)) }
+        ensures is { result ≡ next_above price (levels_of self.now) }
+        ensures quoted { result ≡ next_above price (levels (quotes_of self.now)) }
     {
-        let mut next = HIGHEST_PRICE;
-        for place in 0..self.len() {
-            let level = Level {
-                price: word_at(self.prices, place),
-                shares: word_at(self.shares, place),
-            };
-            next = next.min(level.standing_above(price));
-        }
-        next
+        self.levels()
+            .map(|level| level.standing_above(price))
+            .fold(HIGHEST_PRICE, |least, next| least.min(next))
     }
 
     // Whether each entry has a permitted price and 1 to 1,000,000 shares.
     pub fn fit(&self) -> bool
-        ensures { result ≡ all_by level_fits (levels_in self.now.prices.now self.now.shares.now) }
+        ensures { result ≡ all_by level_fits (levels_of self.now) }
     {
-        for place in 0..self.len() {
-            if !entry_fits(word_at(self.prices, place), word_at(self.shares, place)) {
-                return false;
-            }
-        }
-        true
+        self.levels().all(fits)
+    }
+}
+
+// The entries of a list from a place on: bytes are read by place.
+#[derive(Clone, Copy)]
+pub struct Levels<'a> {
+    entries: Entries<'a>,
+    place: usize,
+}
+
+impl Iterator for Levels<'_> {
+    type Item = Level;
+
+    ghost use Rattle.image.specs.Held.{levels_left};
+
+    ghost next_gives = { YieldsFirst levels_left };
+
+    ghost remaining = { item_count levels_left };
+
+    fn next(&mut self) -> Option<Level> {
+        let level = self.entries.get(self.place)?;
+        self.place += 1;
+        Some(level)
     }
 }

@@ -8,9 +8,10 @@ use market::limits::HIGHEST_PRICE;
 use market::refusal::Refusal;
 use pricing::cause::Cause;
 use pricing::close::close_price;
+use pricing::snap::Snap;
 
 // The outcome of a close on the book in an image; the questions of the image in their order.
-pub fn price_image(image: &[u8], last_sale: u32) -> Result<Result<(u32, u64), Cause>, Refusal>
+pub fn price_image(image: &[u8], last_sale: u32) -> Result<Result<Snap, Cause>, Refusal>
     ensures { PricedAs image.now last_sale result }
 {
     let book = BookImage::read(image)?;
@@ -28,18 +29,19 @@ pub fn price_image(image: &[u8], last_sale: u32) -> Result<Result<(u32, u64), Ca
 
 // Prices the book in an image, by the last eligible sale, 0 if there is none. Returns 0 and writes price, cause
 // and count to the 16 bytes of the output; or returns the number of a refusal and leaves the output as it stood.
+// The C interface has numbers alone: 0 here and the cause 0 in the bytes say that there is a price.
 #[unsafe(no_mangle)]
 pub extern "C" fn snap_price_image(image: &[u8], last_sale: u32, out: &mut [u8]) -> u32
     ensures { ImagePricing image.now last_sale out.old result out.new }
 {
     if out.len() != ANSWER {
-        return Refusal::OutputLength.number();
+        return u32::from(Refusal::OutputLength);
     }
     match price_image(image, last_sale) {
         Ok(outcome) => {
             put_outcome(out, outcome);
             0
         }
-        Err(refusal) => refusal.number(),
+        Err(refusal) => u32::from(refusal),
     }
 }

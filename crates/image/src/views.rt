@@ -2,7 +2,8 @@
 ghost use Rattle.std.specs.Prelude.{◌≡◌};
 ghost use Rattle.std.specs.List.{slice_get};
 ghost use Rattle.image.specs.Images.{market_of, orders_on, orders_fit};
-ghost use Rattle.image.specs.Held.{book_of};
+ghost use Rattle.market.specs.Markets.{quotes_on};
+ghost use Rattle.image.specs.Held.{levels_of, quotes_of, book_of};
 
 use crate::entries::Entries;
 use crate::image::BookImage;
@@ -14,14 +15,31 @@ use pricing::level::Level;
 use pricing::view::BookView;
 
 impl<'a> BookImage<'a> {
+    // The orders of a side.
+    pub fn orders(&self, side: Side) -> Entries<'a>
+        ensures { levels_of result ≡ orders_on side (book_of self.now) }
+    {
+        match side {
+            Side::Buy => self.buys,
+            Side::Sell => self.sells,
+        }
+    }
+
+    // The quotes of a side, as one choice of two lists more: what they mean is said by other words than what orders do.
+    fn quoted(&self, side: Side) -> Entries<'a>
+        ensures { quotes_of result ≡ quotes_on side (market_of (book_of self.now)) }
+    {
+        match side {
+            Side::Buy => self.bids,
+            Side::Sell => self.offers,
+        }
+    }
+
     // The order at a place of a side, counted from 0; none past the end.
     pub fn order(&self, side: Side, place: usize) -> Option<Level>
         ensures { result ≡ slice_get (orders_on side (book_of self.now)) place }
     {
-        match side {
-            Side::Buy => self.buys.get(place),
-            Side::Sell => self.sells.get(place),
-        }
+        self.orders(side).get(place)
     }
 
     // Whether each order has a permitted price and 1 to 1,000,000 shares.
@@ -36,17 +54,11 @@ impl QuoteSource for BookImage<'_> {
     ghost meaning = { λ image. market_of (book_of image) };
 
     fn count(&self, side: Side) -> usize {
-        match side {
-            Side::Buy => self.bids.len(),
-            Side::Sell => self.offers.len(),
-        }
+        self.quoted(side).len()
     }
 
     fn quote(&self, side: Side, place: usize) -> Option<Quote> {
-        match side {
-            Side::Buy => self.bids.quote(place),
-            Side::Sell => self.offers.quote(place),
-        }
+        self.quoted(side).quote(place)
     }
 
     fn halted(&self) -> bool {
@@ -57,12 +69,8 @@ impl QuoteSource for BookImage<'_> {
 impl BookView for BookImage<'_> {
     ghost book = { book_of };
 
-    fn demand(&self, price: u32) -> u64 {
-        self.buys.at_or_above(price) + self.bids.at_or_above(price)
-    }
-
-    fn supply(&self, price: u32) -> u64 {
-        self.sells.at_or_below(price) + self.offers.at_or_below(price)
+    fn executable(&self, side: Side, price: u32) -> u64 {
+        self.orders(side).executable(side, price) + self.quoted(side).executable(side, price)
     }
 
     fn next_price(&self, price: u32) -> u32 {

@@ -3,3 +3,4 @@ pub mod Grid
 pub mod Slots
 pub mod Asked
 pub mod Fitting
+pub mod Prices

@@ -1,27 +1,31 @@
--- The list of a table's slots: a loop's steps, what a write to a slot does, and that it goes by venue.
-use Rattle.std.proofs.Common.{◌≡◌, ℕ, zero, suc, ◌+◌, ◌-◌, ◌<◌, ◌≤◌, Bool, true, ◌&&◌, leb, List, [], ◌∷◌, length, get_or, drop, set, Some, None, Option, sym, refl, ap, ◌∙◌, arith}
-use Rattle.std.specs.List.{slice_get, AllByRecursion}
-use Rattle.std.proofs.lemmas.Bool.{le-ltb, lt-ltb, eq-eqb, ne_eqb, and_parts, leb-true}
-use Rattle.std.proofs.lemmas.List.{at_drop_more, at_drop_all}
+-- The list of a table's slots: how long it is, what a write to a slot does, and that it goes by venue.
+use Rattle.std.proofs.Common.{◌≡◌, ℕ, zero, suc, ◌+◌, ◌<◌, ◌≤◌, List, [], ◌∷◌, length, set, filter, count_by, is_some, Some, None, Option, sym, refl, ap, ◌∙◌, arith}
+use Rattle.std.specs.List.{AllByRecursion, filter_map, zip, range_with_len}
+use Rattle.std.specs.Option.{option_map}
+use Rattle.std.proofs.lemmas.Bool.{le-ltb, lt-ltb, eq-eqb, ne_eqb}
+use Rattle.std.proofs.lemmas.List.Sums.{length-filter}
 use Rattle.std.proofs.ByRecursion.{All-weaker}
-use Rattle.market.specs.Venues.{listed, quote_of, quoted, without, is_place, changed, Rising, ByVenue}
-use Rattle.market.specs.Markets.{Market}
+use Rattle.market.specs.Venues.{listed, quote_of, quoted, without, marked, market_in, Rising, ByVenue}
 use Rattle.market.specs.declared.venues.Mark.{Mark}
+use Rattle.market.specs.declared.venues.VenueTable.{VenueTable}
 use Rattle.market.specs.declared.quote.Quote.{Quote}
 
-module _ (slots : List (Option Mark)) (i v : ℕ) (d : Option Mark) where
-  pub listed_none : i < length slots → get_or slots i d ≡ None → listed v (drop i slots) ≡ listed (v + 1) (drop (i + 1) slots)
-  listed_none h e = at_drop_more (listed v) slots i d h ∙ ap (λ y. listed v (y ∷ drop (i + 1) slots)) e
+-- as many quotes as marks
+marks_listed : (v : ℕ) (slots : List (Option Mark)) → length (listed v slots) ≡ length (filter is_some slots)
+marks_listed v [] = refl
+marks_listed v (None ∷ slots) = marks_listed (v + 1) slots
+marks_listed v (Some m ∷ slots) = ap suc (marks_listed (v + 1) slots)
 
-  pub listed_some : (m : Mark) → i < length slots → get_or slots i d ≡ Some m → listed v (drop i slots) ≡ quote_of m v ∷ listed (v + 1) (drop (i + 1) slots)
-  listed_some m h e = at_drop_more (listed v) slots i d h ∙ ap (λ y. listed v (y ∷ drop (i + 1) slots)) e
+pub length_listed : (v : ℕ) (slots : List (Option Mark)) → length (listed v slots) ≡ count_by is_some slots
+length_listed v slots = marks_listed v slots ∙ length-filter is_some slots
 
-  pub listed_all : length slots ≤ i → listed v (drop i slots) ≡ []
-  listed_all h = at_drop_all (listed v) slots i h
-
-pub nth_tail : (x : Quote) (xs : List Quote) (n : ℕ) → 0 < n → slice_get (x ∷ xs) n ≡ slice_get xs (n - 1)
-nth_tail x xs zero h = absurd (omega arith)
-nth_tail x xs (suc n) h = ap (slice_get xs) (omega arith)
+-- the quotes, each by its slot and its venue
+pub listed_zip : (v n : ℕ) (slots : List (Option Mark)) → length slots ≡ n → filter_map (λ p. option_map (λ m. quote_of m p.0) p.1) (zip (range_with_len v n) slots) ≡ listed v slots
+listed_zip v zero [] e = refl
+listed_zip v (suc n) [] e = absurd (omega arith)
+listed_zip v zero (slot ∷ slots) e = absurd (omega arith)
+listed_zip v (suc n) (None ∷ slots) e = listed_zip (v + 1) n slots (omega arith)
+listed_zip v (suc n) (Some m ∷ slots) e = ap (λ l. quote_of m v ∷ l) (listed_zip (v + 1) n slots (omega arith))
 
 -- a quote of an earlier venue goes in front
 quoted_first : (q : Quote) (b : ℕ) (slots : List (Option Mark)) → q.venue < b → quoted q (listed b slots) ≡ q ∷ listed b slots
@@ -57,16 +61,9 @@ listed_clear a (suc i) v (None ∷ slots) e h = listed_clear (a + 1) i v slots (
 listed_clear a (suc i) v (Some y ∷ slots) e h =
     rw (ne_eqb a v (λ z. omega arith)) (ap (λ l. quote_of y a ∷ l) (listed_clear (a + 1) i v slots (omega arith) (omega arith)))
 
--- what the test of a place says
-pub place_facts : (venue side : ℕ) → true ≡ is_place venue side → (1 ≤ venue) × (venue ≤ 32) × (1 ≤ side) × (side ≤ 2)
-place_facts venue side e =
-    let p = and_parts (leb 1 venue && leb venue 32) (leb 1 side && leb side 2) (sym e) in
-    let q = and_parts (leb 1 venue) (leb venue 32) p.0 in
-    let r = and_parts (leb 1 side) (leb side 2) p.1 in
-    (leb-true 1 venue q.0, leb-true venue 32 q.1, leb-true 1 side r.0, leb-true side 2 r.1)
-
-abbrev slots_market : List (Option Mark) → List (Option Mark) → Bool → Market
-slots_market bids offers halted = record { bids = listed 1 bids; offers = listed 1 offers; halted = halted }
+pub listed_put : (mark : Option Mark) (a i v : ℕ) (slots : List (Option Mark)) → a + i ≡ v → i < length slots → listed a (set slots i mark) ≡ marked v mark (listed a slots)
+listed_put None = listed_clear
+listed_put (Some m) = listed_set m
 
 -- the list goes by rising venue
 listed_from : (v : ℕ) (slots : List (Option Mark)) → AllByRecursion (λ x. v ≤ x.venue) (listed v slots)
@@ -79,13 +76,5 @@ listed_rising v [] = tt
 listed_rising v (None ∷ slots) = listed_rising (v + 1) slots
 listed_rising v (Some m ∷ slots) = (All-weaker (λ x. v + 1 ≤ x.venue) (λ x. v < x.venue) (λ x h. omega arith) (listed (v + 1) slots) (listed_from (v + 1) slots), listed_rising (v + 1) slots)
 
-pub by_venue : (bids offers : List (Option Mark)) (halted : Bool) → ByVenue (slots_market bids offers halted)
-by_venue bids offers halted = record { bids_rise = listed_rising 1 bids; offers_rise = listed_rising 1 offers }
-
--- the market after a write to one side's slots, by what the write does to the side's list
-module _ (bids offers : List (Option Mark)) (halted : Bool) (side : ℕ) (change : List Quote → List Quote) where
-  pub bids_changed : (after : List (Option Mark)) → side ≡ 1 → listed 1 after ≡ change (listed 1 bids) → slots_market after offers halted ≡ changed true side change (slots_market bids offers halted)
-  bids_changed after e h = rw (eq-eqb side 1 e, ne_eqb side 2 (λ z. omega arith)) (ap (λ l. record { bids = l; offers = listed 1 offers; halted = halted }) h)
-
-  pub offers_changed : (after : List (Option Mark)) → side ≡ 2 → listed 1 after ≡ change (listed 1 offers) → slots_market bids after halted ≡ changed true side change (slots_market bids offers halted)
-  offers_changed after e h = rw (eq-eqb side 2 e, ne_eqb side 1 (λ z. omega arith)) (ap (λ l. record { bids = listed 1 bids; offers = l; halted = halted }) h)
+pub by_venue : (t : VenueTable) → ByVenue (market_in t)
+by_venue t = record { bids_rise = listed_rising 1 t.bids; offers_rise = listed_rising 1 t.offers }

@@ -1,5 +1,6 @@
 -- When the quotes of a market fit.
-use Rattle.std.specs.Prelude.{Bool, true, ◌&&◌, List, [], ◌∷◌, length, nat_le}
+use Rattle.std.specs.Prelude.{Bool, ◌&&◌, List, length, nat_le}
+use Rattle.std.specs.List.{list_all}
 use Rattle.market.specs.declared.quote.Quote.{Quote}
 use Rattle.market.specs.Limits.{most_quotes}
 use Rattle.market.specs.Markets.{Market}
@@ -7,8 +8,7 @@ use Rattle.market.specs.Prices.{fits}
 
 -- each item passes a test
 abbrev pub all_by : {X : Type 0} → (X → Bool) → List X → Bool
-all_by p [] = true
-all_by p (x ∷ xs) = p x && all_by p xs
+all_by p xs = list_all p xs
 
 abbrev pub quote_fits : Quote → Bool
 quote_fits x = fits x.price x.shares

@@ -1,9 +1,12 @@
 pub mod Limits
 pub mod Prices
 pub mod Markets
+pub mod Sides
 pub mod Fits
 pub mod Best
 pub mod Refusals
 pub mod Questions
+pub mod Quotes
 pub mod Venues
 pub mod Rankings
+pub mod RankingLaws

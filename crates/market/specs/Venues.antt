@@ -32,6 +32,11 @@ abbrev pub without : ℕ → List Quote → List Quote
 without v [] = []
 without v (x ∷ xs) = cond (x.venue == v) xs (x ∷ without v xs)
 
+-- a list by venue, once a venue's mark stands in it, or none
+abbrev pub marked : ℕ → Option Mark → List Quote → List Quote
+marked v (Some m) = quoted (quote_of m v)
+marked v None = without v
+
 -- a venue from 1 to 32, and side 1, bids, or 2, offers
 abbrev pub is_place : ℕ → ℕ → Bool
 is_place venue side = (nat_le 1 venue && nat_le venue venues) && (nat_le 1 side && nat_le side 2)

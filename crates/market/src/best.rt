@@ -20,14 +20,8 @@ fn better_price(side: Side, a: u32, b: u32) -> u32
 pub fn best_price<S: QuoteSource>(source: &S, side: Side) -> Option<u32>
     ensures { result ≡ best_price side (quotes_on side (S.meaning source.now)) }
 {
-    let Some(first) = source.quote(side, 0) else {
-        return None;
-    };
-    let mut best = first.price;
-    for place in 1..source.count(side) {
-        if let Some(quote) = source.quote(side, place) {
-            best = better_price(side, best, quote.price);
-        }
-    }
-    Some(best)
+    source
+        .quotes(side)
+        .map(|quote| quote.price)
+        .reduce(|a, b| better_price(side, a, b))
 }

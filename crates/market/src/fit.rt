@@ -19,18 +19,7 @@ fn quote_fits(quote: Quote) -> bool
 fn side_fits<S: QuoteSource>(source: &S, side: Side) -> bool
     ensures { result ≡ side_fits (quotes_on side (S.meaning source.now)) }
 {
-    let count = source.count(side);
-    if count > MOST_QUOTES {
-        return false;
-    }
-    for place in 0..count {
-        if let Some(quote) = source.quote(side, place) {
-            if !quote_fits(quote) {
-                return false;
-            }
-        }
-    }
-    true
+    source.count(side) <= MOST_QUOTES && source.quotes(side).all(quote_fits)
 }
 
 // Whether both sides of a source fit.

@@ -5,6 +5,7 @@ pub mod fit;
 pub mod limits;
 pub mod price;
 pub mod quote;
+pub mod quotes;
 pub mod quoting;
 pub mod rankings;
 pub mod refusal;

@@ -1,4 +1,5 @@
-// The limits of the market, each once. Their twins for contracts stand in specs/Limits.antt.
+// The limits of the market, each once. specs/Limits.antt states them again for the contracts, so that no promise follows a
+// change of a number here.
 
 // The lowest and the highest price, in points.
 pub const LOWEST_PRICE: u32 = 2;

@@ -3,7 +3,7 @@ ghost use Rattle.std.specs.Prelude.{◌≡◌};
 ghost use Rattle.market.specs.Markets.{no_quote};
 
 #[repr(C)]
-#[derive(Clone, Copy, Debug, PartialEq, Eq)]
+#[derive(Clone, Copy, Debug, Default, PartialEq, Eq, Hash)]
 pub struct Quote {
     pub price: u32,
     pub shares: u32,
@@ -14,10 +14,6 @@ impl Quote {
     pub fn none() -> Quote
         ensures { result ≡ no_quote }
     {
-        Quote {
-            price: 0,
-            shares: 0,
-            venue: 0,
-        }
+        Quote::default()
     }
 }

@@ -1,6 +1,9 @@
 // What venues do to their table, and what it means as a source.
-ghost use Rattle.std.specs.Prelude.{◌≡◌, false, [], is_ok};
-ghost use Rattle.market.specs.Venues.{is_place, market_in, ByVenue, set_answer, clear_answer, after_set, after_clear};
+ghost use Rattle.std.specs.Prelude.{◌≡◌, ◌≤◌, true, false, [], is_ok, IfOk, IfErr};
+ghost use Rattle.market.specs.Markets.{quotes_on};
+ghost use Rattle.market.specs.Sides.{side_number};
+ghost use Rattle.market.specs.Venues.{listed, is_place, market_in, changed, marked, ByVenue, set_answer, clear_answer, after_set, after_clear};
+ghost use Rattle.market.specs.declared.refusal.Refusal.TheVariants.{VenueOrSide};
 
 use crate::limits::VENUES;
 use crate::price::entry_fits;
@@ -10,11 +13,17 @@ use crate::side::Side;
 use crate::source::QuoteSource;
 use crate::venues::{Mark, VenueTable, count_marks, mark_at};
 
-// A side's number: 1 for bids, 2 for offers.
-fn is_place(venue: u32, side: u32) -> bool
-    ensures { result ≡ is_place venue side }
+// The side of a number, for a venue's quote: 1 for bids, 2 for offers. A venue may send any numbers: each that is none has its
+// answer.
+fn quoting_side(venue: u32, side: u32) -> Result<Side, Refusal>
+    ensures granted { is_ok result ≡ is_place venue side }
+    ensures ok { IfOk result (λ s. (side_number s ≡ side) × (1 ≤ venue) × (venue ≤ 32)) }
+    ensures err { IfErr result (λ refusal. refusal ≡ VenueOrSide) }
 {
-    venue >= 1 && venue <= VENUES as u32 && side >= 1 && side <= 2
+    match Side::try_from(side) {
+        Ok(side) if (1..=VENUES as u32).contains(&venue) => Ok(side),
+        _ => Err(Refusal::VenueOrSide),
+    }
 }
 
 impl VenueTable {
@@ -36,18 +45,11 @@ impl VenueTable {
         ensures refused { is_ok result ≡ false → self.new ≡ self.old }
         ensures listed { ByVenue (market_in self.new) }
     {
-        if !is_place(venue, side) {
-            return Err(Refusal::VenueOrSide);
-        }
+        let side = quoting_side(venue, side)?;
         if !entry_fits(price, shares) {
             return Err(Refusal::QuoteValue);
         }
-        let slot = venue as usize - 1;
-        if side == 1 {
-            self.bids[slot] = Some(Mark { price, shares });
-        } else {
-            self.offers[slot] = Some(Mark { price, shares });
-        }
+        self.put(side, venue, Some(Mark { price, shares }));
         Ok(())
     }
 
@@ -58,16 +60,31 @@ impl VenueTable {
         ensures refused { is_ok result ≡ false → self.new ≡ self.old }
         ensures listed { ByVenue (market_in self.new) }
     {
-        if !is_place(venue, side) {
-            return Err(Refusal::VenueOrSide);
-        }
-        let slot = venue as usize - 1;
-        if side == 1 {
-            self.bids[slot] = None;
-        } else {
-            self.offers[slot] = None;
-        }
+        let side = quoting_side(venue, side)?;
+        self.put(side, venue, None);
         Ok(())
+    }
+
+    // Puts a mark on a venue's slot of a side, or takes off the one that is there.
+    fn put(&mut self, side: Side, venue: u32, mark: Option<Mark>)
+        requires least { 1 ≤ venue }
+        requires most { venue ≤ 32 }
+        ensures { market_in self.new ≡ changed true (side_number side) (marked venue mark) (market_in self.old) }
+    {
+        let slot = venue as usize - 1;
+        match side {
+            Side::Buy => self.bids[slot] = mark,
+            Side::Sell => self.offers[slot] = mark,
+        }
+    }
+
+    fn slots(&self, side: Side) -> &[Option<Mark>; VENUES]
+        ensures { listed 1 result.now ≡ quotes_on side (market_in self.now) }
+    {
+        match side {
+            Side::Buy => &self.bids,
+            Side::Sell => &self.offers,
+        }
     }
 
     // Halts trading, or lets it go on.
@@ -78,21 +95,23 @@ impl VenueTable {
     }
 }
 
+impl Default for VenueTable {
+    ghost is_default = { λ table. market_in table ≡ record { bids = []; offers = []; halted = false } };
+
+    fn default() -> VenueTable {
+        VenueTable::new()
+    }
+}
+
 impl QuoteSource for VenueTable {
     ghost meaning = { market_in };
 
     fn count(&self, side: Side) -> usize {
-        match side {
-            Side::Buy => count_marks(&self.bids),
-            Side::Sell => count_marks(&self.offers),
-        }
+        count_marks(self.slots(side))
     }
 
     fn quote(&self, side: Side, place: usize) -> Option<Quote> {
-        match side {
-            Side::Buy => mark_at(&self.bids, place),
-            Side::Sell => mark_at(&self.offers, place),
-        }
+        mark_at(self.slots(side), place)
     }
 
     fn halted(&self) -> bool {

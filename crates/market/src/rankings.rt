@@ -1,50 +1,76 @@
 // How quotes rank: bids by higher price, offers by lower price, then by lower venue.
-ghost use Rattle.market.specs.Rankings.{higher, lower, quote_ahead};
-ghost use Rattle.std.proofs.Common.{rules};
+ghost use Rattle.std.specs.Prelude.{◌≡◌, ℕ, Bool};
+ghost use Rattle.market.specs.Rankings.{higher, lower, quote_ahead, IsPriceOrder};
+ghost use Rattle.market.specs.RankingLaws.{higher_laws, lower_laws, quote_apart, quote_through, quote_level};
 
 use crate::quote::Quote;
 use ranking::rank::Ranking;
+use std::marker::PhantomData;
+
+// Which of two prices is the better one.
+pub trait PriceOrder {
+    ghost better: { ℕ → ℕ → Bool };
+
+    fn is_better(a: u32, b: u32) -> bool
+        ensures { result ≡ better a b };
+
+    ghost laws: { IsPriceOrder better };
+}
 
 // The higher price is the better one, as for those who buy.
-#[derive(Clone, Copy)]
-pub struct HigherFirst;
+#[derive(Clone, Copy, Debug, PartialEq, Eq, Hash)]
+pub struct Higher;
 
-// The lower price is the better one, as for those who sell.
-#[derive(Clone, Copy)]
-pub struct LowerFirst;
+impl PriceOrder for Higher {
+    ghost better = { higher };
 
-impl Ranking<Quote> for HigherFirst {
-    ghost ahead = { quote_ahead higher };
+    ghost laws = { higher_laws };
 
-    ghost apart = { Prim.search rules };
-
-    ghost through = { Prim.search rules };
-
-    ghost level = { Prim.search rules };
-
-    fn is_ahead(a: &Quote, b: &Quote) -> bool {
-        if a.price == b.price {
-            a.venue < b.venue
-        } else {
-            b.price < a.price
-        }
+    fn is_better(a: u32, b: u32) -> bool {
+        b < a
     }
 }
 
-impl Ranking<Quote> for LowerFirst {
-    ghost ahead = { quote_ahead lower };
+// The lower price is the better one, as for those who sell.
+#[derive(Clone, Copy, Debug, PartialEq, Eq, Hash)]
+pub struct Lower;
 
-    ghost apart = { Prim.search rules };
+impl PriceOrder for Lower {
+    ghost better = { lower };
 
-    ghost through = { Prim.search rules };
+    ghost laws = { lower_laws };
 
-    ghost level = { Prim.search rules };
+    fn is_better(a: u32, b: u32) -> bool {
+        a < b
+    }
+}
+
+// The better price goes first.
+#[derive(Clone, Copy, Debug, PartialEq, Eq, Hash)]
+pub struct ByPrice<P> {
+    pub order: PhantomData<P>,
+}
+
+// As the bids rank.
+pub type HigherFirst = ByPrice<Higher>;
+
+// As the offers rank.
+pub type LowerFirst = ByPrice<Lower>;
+
+impl<P: PriceOrder> Ranking<Quote> for ByPrice<P> {
+    ghost ahead = { quote_ahead P.better };
+
+    ghost apart = { quote_apart P.better P.laws };
+
+    ghost through = { quote_through P.better P.laws };
+
+    ghost level = { quote_level P.better P.laws };
 
     fn is_ahead(a: &Quote, b: &Quote) -> bool {
         if a.price == b.price {
             a.venue < b.venue
         } else {
-            a.price < b.price
+            P::is_better(a.price, b.price)
         }
     }
 }

@@ -1,100 +1,127 @@
 // Why a call is refused. Each refusal has a number of its own, which callers get.
 ghost use Rattle.std.specs.Prelude.{◌≡◌};
-ghost use Rattle.market.specs.Refusals.{refusal_number};
+ghost use Rattle.market.specs.Refusals.{refusal_number, refusal_words};
 
-#[derive(Clone, Copy, Debug, PartialEq, Eq)]
+use std::error::Error;
+use std::fmt;
+
+#[derive(Clone, Copy, Debug, PartialEq, Eq, Hash)]
 pub enum Refusal {
     // The tables have not the sizes that the engine works on.
-    TableSizes,
+    TableSizes = 1,
     // The engine is in another stage than the call needs.
-    WrongStage,
+    WrongStage = 2,
     // The time is past the end of the day, or before the last accepted one.
-    TimeRange,
+    TimeRange = 3,
     // The quotes do not fit.
-    Quotes,
+    Quotes = 4,
     // Trading in the security is halted.
-    TradingHalted,
+    TradingHalted = 5,
     // There is not both a bid and an offer, or a bid is above an offer.
-    NoMarket,
+    NoMarket = 6,
     // The order is not well formed.
-    OrderForm,
+    OrderForm = 7,
     // The start order is a short sale under restriction.
-    ShortSale,
+    ShortSale = 8,
     // The start order has not the minimum size.
-    StartSize,
+    StartSize = 9,
     // The start order does not reach the best quote of the other side.
-    StartReach,
+    StartReach = 10,
     // The cycle may not start at this time.
-    StartTime,
+    StartTime = 11,
     // Routing is not available.
-    NoRouting,
+    NoRouting = 12,
     // The acceptance length is out of its range.
-    AcceptanceLength,
+    AcceptanceLength = 13,
     // The number is on the book already.
-    NumberTaken,
+    NumberTaken = 14,
     // The side has no free row.
-    SideFull,
+    SideFull = 15,
     // The number is not on the book.
-    UnknownOrder,
+    UnknownOrder = 16,
     // The order has no rest.
-    NoRest,
+    NoRest = 17,
     // The acceptance is not over yet.
-    CloseEarly,
+    CloseEarly = 18,
     // The last eligible sale is too high.
-    LastSale,
+    LastSale = 19,
     // There is no such ticket.
-    UnknownTicket,
+    UnknownTicket = 20,
     // The ticket is reported already.
-    TicketReported,
+    TicketReported = 21,
     // More is filled than the ticket has shares.
-    TicketFills,
+    TicketFills = 22,
     // Tickets are unreported, and the deadline is not reached.
-    TicketsOut,
+    TicketsOut = 23,
     // The output has not 16 bytes.
-    OutputLength,
+    OutputLength = 24,
     // The image has not the layout of a book.
-    ImageLayout,
+    ImageLayout = 25,
     // An order of the image has a price or shares that no order may have.
-    ImageOrder,
+    ImageOrder = 26,
     // There is no such venue or side.
-    VenueOrSide,
+    VenueOrSide = 27,
     // The price or the shares of a quote are none that a quote may have.
-    QuoteValue,
+    QuoteValue = 28,
 }
 
 impl Refusal {
-    pub fn number(self) -> u32
-        ensures { result ≡ refusal_number self }
+    // What it says, in words.
+    pub fn words(self) -> &'static str
+        ensures { result.now ≡ refusal_words self }
     {
         match self {
-            Refusal::TableSizes => 1,
-            Refusal::WrongStage => 2,
-            Refusal::TimeRange => 3,
-            Refusal::Quotes => 4,
-            Refusal::TradingHalted => 5,
-            Refusal::NoMarket => 6,
-            Refusal::OrderForm => 7,
-            Refusal::ShortSale => 8,
-            Refusal::StartSize => 9,
-            Refusal::StartReach => 10,
-            Refusal::StartTime => 11,
-            Refusal::NoRouting => 12,
-            Refusal::AcceptanceLength => 13,
-            Refusal::NumberTaken => 14,
-            Refusal::SideFull => 15,
-            Refusal::UnknownOrder => 16,
-            Refusal::NoRest => 17,
-            Refusal::CloseEarly => 18,
-            Refusal::LastSale => 19,
-            Refusal::UnknownTicket => 20,
-            Refusal::TicketReported => 21,
-            Refusal::TicketFills => 22,
-            Refusal::TicketsOut => 23,
-            Refusal::OutputLength => 24,
-            Refusal::ImageLayout => 25,
-            Refusal::ImageOrder => 26,
-            Refusal::VenueOrSide => 27,
-            Refusal::QuoteValue => 28,
+            Refusal::TableSizes => "the tables have not 512, 512, 32, 32 and 544 rows",
+            Refusal::WrongStage => "the engine is in another stage than the call needs",
+            Refusal::TimeRange =>
+                "the time is past the end of the day, or before the last accepted one",
+            Refusal::Quotes =>
+                "a side has more than 32 outside quotes, or one has a price that is not permitted or not 1 to 1,000,000 shares",
+            Refusal::TradingHalted => "trading in the security is halted",
+            Refusal::NoMarket => "there is not both a bid and an offer, or a bid is above an offer",
+            Refusal::OrderForm => "the order is not well formed",
+            Refusal::ShortSale => "the start order is a short sale under restriction",
+            Refusal::StartSize => "the start order has not the minimum size",
+            Refusal::StartReach =>
+                "the start order does not reach the best quote of the other side",
+            Refusal::StartTime => "a cycle may not start at this time",
+            Refusal::NoRouting => "routing is not available",
+            Refusal::AcceptanceLength => "the acceptance length is not 475 to 525 ms",
+            Refusal::NumberTaken => "the number is on the book already",
+            Refusal::SideFull => "the side has no free row",
+            Refusal::UnknownOrder => "the number is not on the book",
+            Refusal::NoRest => "the order has no rest",
+            Refusal::CloseEarly => "the acceptance is not over yet",
+            Refusal::LastSale => "the last sale is above 4,000,000,000 points",
+            Refusal::UnknownTicket => "there is no such ticket",
+            Refusal::TicketReported => "the ticket is reported already",
+            Refusal::TicketFills => "more is filled than the ticket has shares",
+            Refusal::TicketsOut => "tickets are unreported, and the deadline is not reached",
+            Refusal::OutputLength => "the output has not 16 bytes",
+            Refusal::ImageLayout => "the bytes have not the layout of a book image",
+            Refusal::ImageOrder =>
+                "an order has a price that is not permitted or not 1 to 1,000,000 shares",
+            Refusal::VenueOrSide =>
+                "there is no such venue, 1 to 32, or side, 1 for bids and 2 for offers",
+            Refusal::QuoteValue =>
+                "the price is not permitted, or the shares are not 1 to 1,000,000",
         }
     }
 }
+
+impl From<Refusal> for u32 {
+    ghost from_gives = { λ refusal number. number ≡ refusal_number refusal };
+
+    fn from(refusal: Refusal) -> u32 {
+        refusal as u32
+    }
+}
+
+// A refusal prints its words; a cause does the same, in as few lines as a trait for both would take.
+impl fmt::Display for Refusal {
+    fn fmt<W: fmt::Write>(&self, f: &mut fmt::Formatter<W>) -> fmt::Result {
+        f.write_str(self.words())
+    }
+}
+
+impl Error for Refusal {}

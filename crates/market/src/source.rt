@@ -2,8 +2,10 @@
 ghost use Rattle.std.specs.Prelude.{◌≡◌, length};
 ghost use Rattle.std.specs.List.{slice_get};
 ghost use Rattle.market.specs.Markets.{Market, quotes_on};
+ghost use Rattle.market.specs.Quotes.{quotes_left};
 
 use crate::quote::Quote;
+use crate::quotes::Quotes;
 use crate::side::Side;
 
 pub trait QuoteSource {
@@ -20,4 +22,15 @@ pub trait QuoteSource {
     // Whether trading in the security is halted.
     fn halted(&self) -> bool
         ensures { result ≡ (meaning self.now).halted };
+
+    // The quotes of a side, one after another.
+    final fn quotes(&self, side: Side) -> Quotes<'_, Self>
+        ensures { quotes_left meaning result ≡ quotes_on side (meaning self.now) }
+    {
+        Quotes {
+            source: self,
+            side,
+            places: 0..self.count(side),
+        }
+    }
 }

@@ -1,13 +1,13 @@
 -- Why no change loses a share, and what handing out leaves in all.
-use Rattle.std.proofs.Common.{◌≡◌, ℕ, suc, ◌+◌, ◌-◌, min, Bool, true, false, cond, List, [], ◌∷◌, ◌++◌, length, Some, sum_by, refl, ap, ◌∙◌, arith}
+use Rattle.std.proofs.Common.{◌≡◌, ℕ, suc, ◌+◌, ◌-◌, min, true, List, [], ◌∷◌, ◌++◌, length, Some, sum_by, refl, ap, ◌∙◌, arith}
 use Rattle.std.proofs.lemmas.List.Sums.{sum_by-cons}
-use Rattle.std.proofs.lemmas.Bool.{eq-eqb, eqb-true}
+use Rattle.std.proofs.lemmas.Bool.Decides.{nat_tests}
 use Rattle.orders.specs.declared.order.Class.{Class}
 use Rattle.orders.specs.declared.order.Class.TheVariants.{Displayed, Reserve, Hidden}
 use Rattle.orders.specs.declared.order.Order.{Order}
 use Rattle.orders.specs.declared.row.OrderRow.{OrderRow}
 use Rattle.orders.specs.Orders.{class_number, class_numbered}
-use Rattle.orders.specs.Rows.{is_whole, entered_row, with_settled}
+use Rattle.orders.specs.Rows.{is_whole, entered_row}
 use Rattle.orders.specs.Tables.{available, if_whole, handed}
 use Rattle.orders.specs.Laws.{KeptWhole}
 
@@ -17,21 +17,15 @@ class_numbered_lem Reserve = refl
 class_numbered_lem Hidden = refl
 
 pub entered_whole : (o : Order) → is_whole (entered_row o) ≡ true
-entered_whole o = eq-eqb _ _ (omega arith)
-
-settled_whole : (w : OrderRow) → is_whole w ≡ true → (shares filled : ℕ) (late : Bool) → is_whole (with_settled shares filled late w) ≡ true
-settled_whole w h shares filled true = let e = eqb-true _ _ h in eq-eqb _ _ (omega arith)
-settled_whole w h shares filled false = let e = eqb-true _ _ h in eq-eqb _ _ (omega arith)
+entered_whole o = grind (arith, nat_tests)
 
 pub stays_whole : (w : OrderRow) → is_whole w ≡ true → KeptWhole w
-stays_whole w h =
-    let e = eqb-true _ _ h in
-    record {
-      cancelled = eq-eqb _ _ (omega arith);
-      here = λ n. eq-eqb _ _ (omega arith);
-      out = λ n. eq-eqb _ _ (omega arith);
-      settled = settled_whole w h;
-    }
+stays_whole w h = record {
+  cancelled = grind (arith, nat_tests);
+  here = λ n. grind (arith, nat_tests);
+  out = λ n. grind (arith, nat_tests);
+  settled = λ shares filled late. grind (arith, nat_tests);
+}
 
 pub length_handed : (g : ℕ → OrderRow → OrderRow) (k : ℕ) (ws : List OrderRow) → length (handed g k ws) ≡ length ws
 length_handed g k [] = refl
@@ -50,12 +44,10 @@ module _ (g : ℕ → OrderRow → OrderRow) (count : OrderRow → ℕ)
     (rises : (n : ℕ) (w : OrderRow) → count (g n w) ≡ count w + min n w.rest) where
   -- one row
   row_falls : (k : ℕ) (w : OrderRow) → (if_whole (g k) w).rest + min k (available w) ≡ w.rest
-  row_falls k w = elim (is_whole w) as (λ b. (cond b (g k w) w).rest + min k (cond b w.rest 0) ≡ w.rest)
-      [ true ↦ omega (arith, falls k w) | false ↦ omega arith ]
+  row_falls k w = grind (arith, nat_tests, falls k w)
 
   row_rises : (k : ℕ) (w : OrderRow) → count (if_whole (g k) w) ≡ count w + min k (available w)
-  row_rises k w = elim (is_whole w) as (λ b. count (cond b (g k w) w) ≡ count w + min k (cond b w.rest 0))
-      [ true ↦ rises k w | false ↦ omega arith ]
+  row_rises k w = grind (arith, nat_tests, rises k w)
 
   pub rests_fall : (k : ℕ) (ws : List OrderRow) → sum_by (λ w. w.rest) (handed g k ws) + min k (sum_by available ws) ≡ sum_by (λ w. w.rest) ws
   rests_fall k [] = omega arith

@@ -1,5 +1,7 @@
 pub mod Orders
 pub mod Rows
+pub mod Records
 pub mod Tables
 pub mod Laws
 pub mod Rankings
+pub mod RankingLaws

@@ -1,10 +1,11 @@
 -- What the numbers of an order say, and when it is well formed.
 use Rattle.std.specs.Prelude.{ℕ, Bool, cond, not, ◌&&◌, is_some, Some, None, Option, ◌==◌}
 use Rattle.market.specs.Prices.{fits}
+pub use Rattle.market.specs.Sides.{side_numbered}
 use Rattle.market.specs.declared.side.Side.{Side}
-use Rattle.market.specs.declared.side.Side.TheVariants.{Buy, Sell}
 use Rattle.orders.specs.declared.order.Order.{Order}
 use Rattle.orders.specs.declared.order.Class.{Class}
+use Rattle.orders.specs.declared.order.UnknownClass.{UnknownClass}
 use Rattle.orders.specs.declared.order.Class.TheVariants.{Displayed, Reserve, Hidden}
 
 abbrev pub class_number : Class → ℕ
@@ -15,8 +16,9 @@ class_number Hidden = 2
 abbrev pub class_numbered : ℕ → Option Class
 class_numbered n = cond (n == 0) (Some Displayed) (cond (n == 1) (Some Reserve) (cond (n == 2) (Some Hidden) None))
 
-abbrev pub side_numbered : ℕ → Option Side
-side_numbered n = cond (n == 1) (Some Buy) (cond (n == 2) (Some Sell) None)
+-- a number that no class has
+abbrev pub unknown_class : ℕ → UnknownClass
+unknown_class n = record { 0 = n }
 
 -- a number that is not 0, a side, a class, a permitted price and 1 to 1,000,000 shares
 abbrev pub well_formed : Order → Bool

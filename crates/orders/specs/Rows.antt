@@ -2,6 +2,8 @@
 use Rattle.std.specs.Prelude.{ℕ, ◌+◌, ◌-◌, min, Bool, cond, ◌==◌}
 use Rattle.orders.specs.declared.order.Order.{Order}
 use Rattle.orders.specs.declared.row.OrderRow.{OrderRow}
+use Rattle.orders.specs.declared.record.Destination.{Destination}
+use Rattle.orders.specs.declared.record.Destination.TheVariants.{Here, Out}
 
 abbrev pub empty_row : OrderRow
 empty_row = record { number = 0; class = 0; price = 0; shares = 0; rest = 0; here = 0; away = 0; out = 0; cancelled = 0; late = 0 }
@@ -73,6 +75,11 @@ with_out n w =
       cancelled = w.cancelled;
       late = w.late;
     }
+
+-- n shares of the rest, or all of it, go where they are sent
+abbrev pub sent : Destination → ℕ → OrderRow → OrderRow
+sent Here = with_here
+sent Out = with_out
 
 -- of a ticket's shares those that were out come back, and of these up to `filled` are filled
 abbrev pub back : ℕ → OrderRow → ℕ

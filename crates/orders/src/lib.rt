@@ -5,5 +5,4 @@ pub mod order;
 pub mod rankings;
 pub mod record;
 pub mod row;
-pub mod seat;
 pub mod side;

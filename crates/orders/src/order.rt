@@ -1,11 +1,14 @@
 // An order as a member enters it, in plain numbers, and what those numbers say.
 ghost use Rattle.std.specs.Prelude.{◌≡◌, is_some};
-ghost use Rattle.orders.specs.Orders.{class_number, side_numbered, class_numbered, well_formed, typed};
 
 use market::price::entry_fits;
 use market::side::Side;
+use std::error::Error;
+use std::fmt;
 
-#[derive(Clone, Copy, Debug, PartialEq, Eq)]
+// A member can enter any numbers, and each that is wrong is refused by its own refusal.
+#[repr(C)]
+#[derive(Clone, Copy, Debug, PartialEq, Eq, Hash)]
 pub struct Order {
     pub number: u32,
     pub side: u32,
@@ -15,57 +18,67 @@ pub struct Order {
 }
 
 // How an order is shown: displayed, the undisplayed part of a reserve order, or not at all.
-#[derive(Clone, Copy, Debug, PartialEq, Eq)]
+#[derive(Clone, Copy, Debug, PartialEq, Eq, PartialOrd, Ord, Hash)]
 pub enum Class {
-    Displayed,
-    Reserve,
-    Hidden,
+    Displayed = 0,
+    Reserve = 1,
+    Hidden = 2,
 }
 
-impl Class {
-    pub fn number(self) -> u32
-        ensures { result ≡ class_number self }
-    {
-        match self {
-            Class::Displayed => 0,
-            Class::Reserve => 1,
-            Class::Hidden => 2,
-        }
-    }
+// A number that no class has.
+#[derive(Clone, Copy, Debug, PartialEq, Eq, Hash)]
+pub struct UnknownClass(pub u32);
 
-    // The class that has a number, if any.
-    pub fn numbered(number: u32) -> Option<Class>
-        ensures { result ≡ class_numbered number }
-    {
+impl TryFrom<u32> for Class {
+    type Error = UnknownClass;
+
+    ghost use Rattle.std.specs.Prelude.{ok_or};
+    ghost use Rattle.orders.specs.Orders.{class_numbered, unknown_class};
+
+    ghost try_from_gives = { λ number result. result ≡ ok_or (class_numbered number) (unknown_class number) };
+
+    fn try_from(number: u32) -> Result<Self, UnknownClass> {
         match number {
-            0 => Some(Class::Displayed),
-            1 => Some(Class::Reserve),
-            2 => Some(Class::Hidden),
-            _ => None,
+            0 => Ok(Class::Displayed),
+            1 => Ok(Class::Reserve),
+            2 => Ok(Class::Hidden),
+            _ => Err(UnknownClass(number)),
         }
     }
 }
 
-// The side that has a number, if any.
-fn side_numbered(number: u32) -> Option<Side>
-    ensures { result ≡ side_numbered number }
-{
-    match number {
-        1 => Some(Side::Buy),
-        2 => Some(Side::Sell),
-        _ => None,
+impl From<Class> for u32 {
+    ghost use Rattle.orders.specs.Orders.{class_number};
+
+    ghost from_gives = { λ class number. number ≡ class_number class };
+
+    fn from(class: Class) -> u32 {
+        class as u32
     }
 }
 
-// The side and the class of an order; none where it is not well formed.
-pub fn well_formed(order: Order) -> Option<(Side, Class)>
-    ensures is { result ≡ typed order }
-    ensures when { is_some result ≡ well_formed order }
-{
-    if order.number == 0 || !entry_fits(order.price, order.shares) {
-        return None;
+// Written out, as for each error with a text.
+impl fmt::Display for UnknownClass {
+    fn fmt<W: fmt::Write>(&self, f: &mut fmt::Formatter<W>) -> fmt::Result {
+        write!(f, "no class of orders has number {}", self.0)
     }
-    let side = side_numbered(order.side)?;
-    let class = Class::numbered(order.class)?;
-    Some((side, class))
+}
+
+impl Error for UnknownClass {}
+
+impl Order {
+    ghost use Rattle.orders.specs.Orders.{well_formed, typed};
+
+    // The side and the class of an order; none where it is not well formed.
+    pub fn well_formed(self) -> Option<(Side, Class)>
+        ensures is { result ≡ typed self }
+        ensures when { is_some result ≡ well_formed self }
+    {
+        if self.number == 0 || !entry_fits(self.price, self.shares) {
+            return None;
+        }
+        let side = Side::try_from(self.side).ok()?;
+        let class = Class::try_from(self.class).ok()?;
+        Some((side, class))
+    }
 }

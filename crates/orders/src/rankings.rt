@@ -1,48 +1,25 @@
 // How orders rank on a side: by better price, then by lower class, then by lower number.
-ghost use Rattle.market.specs.Rankings.{higher, lower};
 ghost use Rattle.orders.specs.Rankings.{row_ahead};
-ghost use Rattle.std.proofs.Common.{rules};
+ghost use Rattle.orders.specs.RankingLaws.{row_apart, row_through, row_level};
 
 use crate::row::OrderRow;
-use market::rankings::{HigherFirst, LowerFirst};
+use market::rankings::{ByPrice, PriceOrder};
 use ranking::rank::Ranking;
 
-impl Ranking<OrderRow> for HigherFirst {
-    ghost ahead = { row_ahead higher };
+impl<P: PriceOrder> Ranking<OrderRow> for ByPrice<P> {
+    ghost ahead = { row_ahead P.better };
 
-    ghost apart = { Prim.search rules };
+    ghost apart = { row_apart P.better P.laws };
 
-    ghost through = { Prim.search rules };
+    ghost through = { row_through P.better P.laws };
 
-    ghost level = { Prim.search rules };
-
-    fn is_ahead(a: &OrderRow, b: &OrderRow) -> bool {
-        if a.price != b.price {
-            b.price < a.price
-        } else if a.class != b.class {
-            a.class < b.class
-        } else {
-            a.number < b.number
-        }
-    }
-}
-
-impl Ranking<OrderRow> for LowerFirst {
-    ghost ahead = { row_ahead lower };
-
-    ghost apart = { Prim.search rules };
-
-    ghost through = { Prim.search rules };
-
-    ghost level = { Prim.search rules };
+    ghost level = { row_level P.better P.laws };
 
     fn is_ahead(a: &OrderRow, b: &OrderRow) -> bool {
-        if a.price != b.price {
-            a.price < b.price
-        } else if a.class != b.class {
-            a.class < b.class
+        if a.price == b.price {
+            (a.class, a.number) < (b.class, b.number)
         } else {
-            a.number < b.number
+            P::is_better(a.price, b.price)
         }
     }
 }

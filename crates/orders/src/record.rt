@@ -1,13 +1,121 @@
-// A row whose counts add up to the shares as entered.
-ghost use Rattle.std.specs.Prelude.{◌≡◌, ◌+◌};
+// A row whose counts add up to the shares as entered, and each change of its counts. There is no other.
+ghost use Rattle.std.specs.Prelude.{◌≡◌, true, min};
+ghost use Rattle.orders.specs.Rows.{is_whole, with_cancelled, with_settled, sent};
 
 use crate::row::OrderRow;
+use std::error::Error;
+use std::fmt;
+use std::marker::Model;
 
-mod changes;
-mod check;
-
-#[derive(Clone, Copy)]
+#[derive(Clone, Copy, Debug, PartialEq, Eq)]
 pub struct OrderRecord {
     row: OrderRow,
-    ghost whole: { row.shares ≡ row.rest + row.here + row.away + row.out + row.cancelled + row.late },
 }
+
+impl Model for OrderRecord {
+    ghost use Rattle.std.specs.Prelude.{◌≡◌, ◌+◌};
+    ghost use Rattle.orders.specs.declared.row.OrderRow.{OrderRow};
+
+    ghost Value = { OrderRow };
+
+    ghost view = { λ a. a.row };
+
+    ghost invariant = { λ a. a.row.shares ≡ a.row.rest + a.row.here + a.row.away + a.row.out + a.row.cancelled + a.row.late };
+
+    ghost inverse = { λ w. record { row = w } };
+}
+
+// A row whose counts do not add up.
+#[derive(Clone, Copy, Debug, PartialEq, Eq, Hash)]
+pub struct NotWhole(pub OrderRow);
+
+// Where shares of an order go: they are filled here, or sent out to another venue.
+#[derive(Clone, Copy, Debug, PartialEq, Eq, Hash)]
+pub enum Destination {
+    Here,
+    Out,
+}
+
+impl TryFrom<OrderRow> for OrderRecord {
+    type Error = NotWhole;
+
+    ghost use Rattle.orders.specs.Records.{RecordOf};
+
+    ghost try_from_gives = { RecordOf };
+
+    fn try_from(row: OrderRow) -> Result<Self, NotWhole> {
+        let traded = u64::from(row.here) + u64::from(row.away) + u64::from(row.out);
+        let gone = u64::from(row.cancelled) + u64::from(row.late);
+        if u64::from(row.shares) == u64::from(row.rest) + traded + gone {
+            Ok(OrderRecord { row })
+        } else {
+            Err(NotWhole(row))
+        }
+    }
+}
+
+impl From<OrderRecord> for OrderRow {
+    ghost use Rattle.std.specs.Prelude.{◌≡◌, true};
+    ghost use Rattle.orders.specs.Rows.{is_whole};
+
+    ghost from_gives = { λ whole row. (row ≡ whole) × (is_whole row ≡ true) };
+
+    fn from(whole: OrderRecord) -> OrderRow {
+        whole.row
+    }
+}
+
+impl OrderRecord {
+    // Cancels the rest, and answers how many shares that is.
+    pub fn cancel_rest(&mut self) -> u32
+        ensures row { self.new ≡ with_cancelled self.old }
+        ensures count { result ≡ self.old.rest }
+        ensures whole { is_whole self.new ≡ true }
+    {
+        let count = self.row.rest;
+        self.row.cancelled += count;
+        self.row.rest = 0;
+        count
+    }
+
+    // Sends up to `most` shares of the rest where they go, and answers how many.
+    pub fn send(&mut self, most: u64, to: Destination) -> u64
+        ensures row { self.new ≡ sent to most self.old }
+        ensures count { result ≡ min most self.old.rest }
+        ensures whole { is_whole self.new ≡ true }
+    {
+        let count = most.min(u64::from(self.row.rest)) as u32;
+        self.row.rest -= count;
+        match to {
+            Destination::Here => self.row.here += count,
+            Destination::Out => self.row.out += count,
+        }
+        u64::from(count)
+    }
+
+    // A ticket of `shares` that were out comes back with `filled` of them: what is not filled is late, or rests again. The three
+    // are one report's; two functions more hand them on.
+    pub fn settle(&mut self, shares: u32, filled: u32, late: bool)
+        ensures row { self.new ≡ with_settled shares filled late self.old }
+        ensures whole { is_whole self.new ≡ true }
+    {
+        let back = shares.min(self.row.out);
+        let gained = filled.min(back);
+        self.row.out -= back;
+        self.row.away += gained;
+        if late {
+            self.row.late += back - gained;
+        } else {
+            self.row.rest += back - gained;
+        }
+    }
+}
+
+// Written out, as for each error with a text.
+impl fmt::Display for NotWhole {
+    fn fmt<W: fmt::Write>(&self, f: &mut fmt::Formatter<W>) -> fmt::Result {
+        write!(f, "the counts of order {} do not add up", self.0.number)
+    }
+}
+
+impl Error for NotWhole {}

@@ -1,7 +1,11 @@
 // A digest of an engine and its tables: FNV-1a over the numbers that they hold, each taken whole.
+ghost use Rattle.std.specs.Prelude.{◌≡◌, ℕ, List, [], ◌∷◌};
+ghost use Rattle.std.specs.List.{flat_map};
+ghost use Rattle.play_calls.specs.Digests.{mixed, row_numbers, quote_numbers, ticket_numbers, stage_numbers, engine_numbers, desk_numbers};
+
+use desk::desk::Desk;
 use engine::stage::Stage;
 use engine::state::Engine;
-use engine::tables::Tables;
 use market::quote::Quote;
 use orders::row::OrderRow;
 use routing::ticket::Ticket;
@@ -10,89 +14,116 @@ const BASIS: u64 = 0xcbf2_9ce4_8422_2325;
 
 const PRIME: u64 = 0x0000_0100_0000_01b3;
 
-fn mixed(digest: u64, number: u64) -> u64 {
-    (digest ^ number).wrapping_mul(PRIME)
+// Whatever has numbers for a digest.
+trait Mixed {
+    ghost numbers: { Self → List ℕ };
+
+    // A digest with these numbers mixed into it.
+    fn mixed(&self, digest: u64) -> u64
+        ensures { result ≡ mixed digest (numbers self.now) };
 }
 
-fn mixed_row(digest: u64, row: OrderRow) -> u64 {
-    let mut digest = digest;
-    digest = mixed(digest, u64::from(row.number));
-    digest = mixed(digest, u64::from(row.class));
-    digest = mixed(digest, u64::from(row.price));
-    digest = mixed(digest, u64::from(row.shares));
-    digest = mixed(digest, u64::from(row.rest));
-    digest = mixed(digest, u64::from(row.here));
-    digest = mixed(digest, u64::from(row.away));
-    digest = mixed(digest, u64::from(row.out));
-    digest = mixed(digest, u64::from(row.cancelled));
-    mixed(digest, u64::from(row.late))
+// The numbers of several, one after another.
+fn mixed_all<T: Mixed>(values: &[T], digest: u64) -> u64
+    ensures { result ≡ mixed digest (flat_map T.numbers values.now) }
+{
+    values
+        .iter()
+        .fold(digest, |digest, value| value.mixed(digest))
 }
 
-fn mixed_quote(digest: u64, quote: Quote) -> u64 {
-    let digest = mixed(digest, u64::from(quote.price));
-    let digest = mixed(digest, u64::from(quote.shares));
-    mixed(digest, u64::from(quote.venue))
-}
+impl Mixed for u64 {
+    ghost numbers = { λ n. n ∷ [] };
 
-fn mixed_ticket(digest: u64, ticket: Ticket) -> u64 {
-    let digest = mixed(digest, u64::from(ticket.order));
-    let digest = mixed(digest, u64::from(ticket.venue));
-    let digest = mixed(digest, u64::from(ticket.price));
-    let digest = mixed(digest, u64::from(ticket.shares));
-    mixed(digest, if ticket.reported { 1 } else { 0 })
-}
-
-fn mixed_rows(digest: u64, rows: &[OrderRow]) -> u64 {
-    let mut digest = digest;
-    for row in rows {
-        digest = mixed_row(digest, *row);
+    fn mixed(&self, digest: u64) -> u64 {
+        (digest ^ *self).wrapping_mul(PRIME)
     }
-    digest
 }
 
-fn mixed_quotes(digest: u64, quotes: &[Quote]) -> u64 {
-    let mut digest = digest;
-    for quote in quotes {
-        digest = mixed_quote(digest, *quote);
+impl Mixed for u32 {
+    ghost numbers = { λ n. n ∷ [] };
+
+    fn mixed(&self, digest: u64) -> u64 {
+        u64::from(*self).mixed(digest)
     }
-    digest
 }
 
-fn mixed_tickets(digest: u64, tickets: &[Ticket]) -> u64 {
-    let mut digest = digest;
-    for ticket in tickets {
-        digest = mixed_ticket(digest, *ticket);
+impl Mixed for OrderRow {
+    ghost numbers = { row_numbers };
+
+    fn mixed(&self, digest: u64) -> u64 {
+        let numbers = [
+            self.number,
+            self.class,
+            self.price,
+            self.shares,
+            self.rest,
+            self.here,
+            self.away,
+            self.out,
+            self.cancelled,
+            self.late,
+        ];
+        mixed_all(&numbers, digest)
     }
-    digest
+}
+
+impl Mixed for Quote {
+    ghost numbers = { quote_numbers };
+
+    fn mixed(&self, digest: u64) -> u64 {
+        mixed_all(&[self.price, self.shares, self.venue], digest)
+    }
+}
+
+impl Mixed for Ticket {
+    ghost numbers = { ticket_numbers };
+
+    fn mixed(&self, digest: u64) -> u64 {
+        let reported = u32::from(self.reported);
+        let numbers = [self.order, self.venue, self.price, self.shares, reported];
+        mixed_all(&numbers, digest)
+    }
 }
 
 // The stage with its two numbers, 0 where it has none: when it may be closed, or the price and the deadline.
-fn mixed_stage(digest: u64, stage: Stage) -> u64 {
-    let (first, second) = match stage {
-        Stage::Acceptance { closes } => (closes, 0),
-        Stage::Satisfaction { price, deadline } => (price, deadline),
-        _ => (0, 0),
-    };
-    let digest = mixed(digest, u64::from(stage.number()));
-    let digest = mixed(digest, u64::from(first));
-    mixed(digest, u64::from(second))
+impl Mixed for Stage {
+    ghost numbers = { stage_numbers };
+
+    fn mixed(&self, digest: u64) -> u64 {
+        let (first, second) = match *self {
+            Stage::Acceptance { closes } => (closes, 0),
+            Stage::Satisfaction { price, deadline } => (price, deadline),
+            _ => (0, 0),
+        };
+        mixed_all(&[u32::from(*self), first, second], digest)
+    }
 }
 
-fn mixed_engine(digest: u64, engine: &Engine) -> u64 {
-    let used = engine.used();
-    let digest = mixed_stage(digest, engine.stage());
-    let digest = mixed(digest, used.buys as u64);
-    let digest = mixed(digest, used.sells as u64);
-    let digest = mixed(digest, used.bids as u64);
-    let digest = mixed(digest, used.offers as u64);
-    mixed(digest, used.tickets as u64)
+impl Mixed for Engine {
+    ghost numbers = { engine_numbers };
+
+    fn mixed(&self, digest: u64) -> u64 {
+        let used = self.used();
+        // No From leads from a usize to a u64.
+        let counts = [
+            used.buys as u64,
+            used.sells as u64,
+            used.bids as u64,
+            used.offers as u64,
+            used.tickets as u64,
+        ];
+        mixed_all(&counts, self.stage().mixed(digest))
+    }
 }
 
-pub fn digest_of(engine: &Engine, tables: &Tables<'_>) -> u64 {
-    let digest = mixed_engine(BASIS, engine);
-    let digest = mixed_rows(digest, &*tables.buys);
-    let digest = mixed_rows(digest, &*tables.sells);
-    let digest = mixed_quotes(digest, &*tables.bids);
-    let digest = mixed_quotes(digest, &*tables.offers);
-    mixed_tickets(digest, &*tables.tickets)
+pub fn digest_of(desk: &Desk) -> u64
+    ensures { result ≡ mixed BASIS (desk_numbers desk.now) }
+{
+    let digest = desk.engine.mixed(BASIS);
+    let digest = mixed_all(&desk.buys, digest);
+    let digest = mixed_all(&desk.sells, digest);
+    let digest = mixed_all(&desk.bids, digest);
+    let digest = mixed_all(&desk.offers, digest);
+    mixed_all(&desk.tickets, digest)
 }

@@ -1,14 +1,31 @@
 // A line of the input: a letter and numbers, with one blank between.
-ghost use Rattle.std.specs.Prelude.{◌<◌};
-
 use engine::call::{Call, Facts};
 use engine::stage::Issue;
 use orders::order::Order;
+use std::error::Error;
+use std::fmt;
+use std::num::ParseIntError;
+use std::str::{FromStr, Split};
 
-// The most numbers of a line.
-const FIELDS: usize = 10;
+// A text that is no line of the input.
+#[derive(Clone, Copy, Debug)]
+pub struct NoLine;
 
-// What a line asks for.
+impl fmt::Display for NoLine {
+    fn fmt<W: fmt::Write>(&self, f: &mut fmt::Formatter<W>) -> fmt::Result {
+        write!(f, "play_calls: a line is none that it reads")
+    }
+}
+
+impl Error for NoLine {}
+
+impl From<ParseIntError> for NoLine {
+    fn from(_e: ParseIntError) -> NoLine {
+        NoLine
+    }
+}
+
+// What a line asks for. A venue and a side may be any numbers: the venue table refuses those that are none.
 #[derive(Clone, Copy)]
 pub enum Turn {
     Quote {
@@ -33,188 +50,142 @@ pub enum Turn {
     Outstanding,
 }
 
-// A line taken apart; a number is none where a dash stands for it.
-#[derive(Clone, Copy)]
-struct Line {
-    letter: u8,
-    fields: [Option<u32>; FIELDS],
+// The words of a line that are still to be read.
+#[derive(Drop)]
+struct Words<'a> {
+    words: Split<'a, char>,
 }
 
-fn letter_of(word: &str) -> u8 {
-    match word.as_bytes() {
-        [letter] => *letter,
-        _ => 0,
-    }
-}
-
-// The number of a word; that of a dash is none.
-fn field_of(word: &str) -> Option<Option<u32>> {
-    if word == "-" {
-        return Some(None);
-    }
-    Some(Some(word.parse::<u32>().ok()?))
-}
-
-// How many numbers follow a letter; none where it is no letter of a line.
-fn fields_of(letter: u8) -> Option<usize> {
-    match letter {
-        b'o' => Some(0),
-        b'h' | b'n' | b'x' | b'm' | b'f' | b'a' => Some(1),
-        b'c' | b'l' | b'r' => Some(2),
-        b'q' => Some(4),
-        b'e' => Some(5),
-        b'b' => Some(10),
-        _ => None,
-    }
-}
-
-fn issue_of(special: bool) -> Issue {
-    if special {
-        Issue::Special
-    } else {
-        Issue::Ordinary
-    }
-}
-
-impl Line {
-    // Takes a text apart; none where it has another letter, or not its numbers.
-    fn of(text: &str) -> Option<Line> {
-        let mut letter = 0;
-        let mut fields = [None; FIELDS];
-        let mut count = 0;
-        for (place, word) in text.split(' ').enumerate() {
-            if place == 0 {
-                letter = letter_of(word);
-            } else if count < FIELDS {
-                fields[count] = field_of(word)?;
-                count += 1;
-            } else {
-                return None;
-            }
+impl<'a> Words<'a> {
+    fn new(text: &'a str) -> Words<'a> {
+        Words {
+            words: text.split(' '),
         }
-        if fields_of(letter) != Some(count) {
-            return None;
-        }
-        Some(Line { letter, fields })
     }
 
-    // The number at a place, if there is one.
-    fn field(&self, place: usize) -> Option<u32> {
-        if place < FIELDS {
-            self.fields[place]
+    fn word(&mut self) -> Result<&'a str, NoLine> {
+        self.words.next().ok_or(NoLine)
+    }
+
+    fn number(&mut self) -> Result<u32, NoLine> {
+        Ok(self.word()?.parse::<u32>()?)
+    }
+
+    // A number, or none where a dash stands for it.
+    fn number_or_dash(&mut self) -> Result<Option<u32>, NoLine> {
+        match self.word()? {
+            "-" => Ok(None),
+            word => Ok(Some(word.parse::<u32>()?)),
+        }
+    }
+
+    // A mark, 0 or 1.
+    fn mark(&mut self) -> Result<bool, NoLine> {
+        match self.number()? {
+            0 => Ok(false),
+            1 => Ok(true),
+            _ => Err(NoLine),
+        }
+    }
+
+    fn issue(&mut self) -> Result<Issue, NoLine> {
+        Ok(if self.mark()? {
+            Issue::Special
         } else {
-            None
-        }
-    }
-
-    fn mark(&self, place: usize) -> Option<bool> {
-        match self.field(place) {
-            Some(0) => Some(false),
-            Some(1) => Some(true),
-            _ => None,
-        }
-    }
-
-    // The order whose five numbers begin at a place.
-    fn order(&self, place: usize) -> Option<Order>
-        requires { place < 10 }
-    {
-        Some(Order {
-            number: self.field(place)?,
-            side: self.field(place + 1)?,
-            class: self.field(place + 2)?,
-            price: self.field(place + 3)?,
-            shares: self.field(place + 4)?,
+            Issue::Ordinary
         })
     }
 
-    fn begin(&self) -> Option<Call> {
-        let facts = Facts {
-            short_sale: self.mark(6)?,
-            first_quote: self.field(7),
-            routing: self.mark(8)?,
-            acceptance: self.field(9)?,
-        };
-        Some(Call::Begin {
-            time: self.field(0)?,
-            order: self.order(1)?,
-            facts,
+    fn order(&mut self) -> Result<Order, NoLine> {
+        Ok(Order {
+            number: self.number()?,
+            side: self.number()?,
+            class: self.number()?,
+            price: self.number()?,
+            shares: self.number()?,
         })
     }
 
-    fn close(&self) -> Option<Call> {
-        Some(Call::Close {
-            time: self.field(0)?,
-            last_sale: self.field(1)?,
+    fn facts(&mut self) -> Result<Facts, NoLine> {
+        Ok(Facts {
+            short_sale: self.mark()?,
+            first_quote: self.number_or_dash()?,
+            routing: self.mark()?,
+            acceptance: self.number()?,
         })
     }
 
-    fn report(&self) -> Option<Call> {
-        Some(Call::Report {
-            ticket: self.field(0)?,
-            filled: self.field(1)?,
+    // The call that a letter stands for.
+    fn call(&mut self, letter: &str) -> Result<Call, NoLine> {
+        Ok(match letter {
+            "b" => Call::Begin {
+                time: self.number()?,
+                order: self.order()?,
+                facts: self.facts()?,
+            },
+            "e" => Call::Enter {
+                order: self.order()?,
+            },
+            "x" => Call::Cancel {
+                number: self.number()?,
+            },
+            "l" => Call::Close {
+                time: self.number()?,
+                last_sale: self.number()?,
+            },
+            "r" => Call::Report {
+                ticket: self.number()?,
+                filled: self.number()?,
+            },
+            "m" => Call::Match {
+                time: self.number()?,
+            },
+            "f" => Call::Finish {
+                time: self.number()?,
+            },
+            "a" => Call::Abort {
+                time: self.number()?,
+            },
+            _ => return Err(NoLine),
         })
     }
 
-    // The call that a line stands for.
-    fn call(&self) -> Option<Call> {
-        match self.letter {
-            b'b' => self.begin(),
-            b'e' => Some(Call::Enter {
-                order: self.order(0)?,
-            }),
-            b'x' => Some(Call::Cancel {
-                number: self.field(0)?,
-            }),
-            b'l' => self.close(),
-            b'r' => self.report(),
-            b'm' => Some(Call::Match {
-                time: self.field(0)?,
-            }),
-            b'f' => Some(Call::Finish {
-                time: self.field(0)?,
-            }),
-            _ => Some(Call::Abort {
-                time: self.field(0)?,
-            }),
-        }
-    }
-
-    fn quote(&self) -> Option<Turn> {
-        Some(Turn::Quote {
-            venue: self.field(0)?,
-            side: self.field(1)?,
-            price: self.field(2)?,
-            shares: self.field(3)?,
+    // What the letter and the numbers after it ask for.
+    fn turn(&mut self) -> Result<Turn, NoLine> {
+        Ok(match self.word()? {
+            "q" => Turn::Quote {
+                venue: self.number()?,
+                side: self.number()?,
+                price: self.number()?,
+                shares: self.number()?,
+            },
+            "c" => Turn::Clear {
+                venue: self.number()?,
+                side: self.number()?,
+            },
+            "h" => Turn::Halted {
+                halted: self.mark()?,
+            },
+            "n" => Turn::Made {
+                issue: self.issue()?,
+            },
+            "o" => Turn::Outstanding,
+            letter => Turn::Call {
+                call: self.call(letter)?,
+            },
         })
-    }
-
-    fn clear(&self) -> Option<Turn> {
-        Some(Turn::Clear {
-            venue: self.field(0)?,
-            side: self.field(1)?,
-        })
-    }
-
-    // What the line asks for; none where a number is missing or a mark is neither 0 nor 1.
-    fn turn(&self) -> Option<Turn> {
-        match self.letter {
-            b'q' => self.quote(),
-            b'c' => self.clear(),
-            b'h' => Some(Turn::Halted {
-                halted: self.mark(0)?,
-            }),
-            b'n' => Some(Turn::Made {
-                issue: issue_of(self.mark(0)?),
-            }),
-            b'o' => Some(Turn::Outstanding),
-            _ => Some(Turn::Call { call: self.call()? }),
-        }
     }
 }
 
-// What a text asks for, if it is a line.
-pub fn turn_of(text: &str) -> Option<Turn> {
-    let line = Line::of(text)?;
-    line.turn()
+impl FromStr for Turn {
+    type Err = NoLine;
+
+    fn from_str(text: &str) -> Result<Turn, NoLine> {
+        let mut words = Words::new(text);
+        let turn = words.turn()?;
+        match words.word() {
+            Ok(_) => Err(NoLine),
+            Err(_) => Ok(turn),
+        }
+    }
 }

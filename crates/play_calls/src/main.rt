@@ -4,158 +4,47 @@
 // of the engine and of every table.
 mod digest;
 mod line;
+mod reply;
 
-use anyhow::anyhow;
-use auction::runs;
+use desk::desk::Desk;
 use digest::digest_of;
-use engine::answer::Answer;
-use engine::call::Call;
-use engine::limits::{ORDER_ROWS, QUOTE_ROWS, TICKET_ROWS};
-use engine::stage::Issue;
 use engine::state::Engine;
-use engine::tables::Tables;
-use line::{Turn, turn_of};
-use market::quote::Quote;
+use line::Turn;
 use market::refusal::Refusal;
-use market::venues::VenueTable;
-use orders::row::OrderRow;
-use routing::ticket::Ticket;
-use std::io;
+use reply::Reply;
 use std::io::{BufRead, BufReader};
 
-fn print_done(rt: &HostRuntime, digest: u64) -> io::Result<()> {
-    println!(rt; "ok {digest:016x}")
-}
-
-fn print_number(rt: &HostRuntime, number: u64, digest: u64) -> io::Result<()> {
-    println!(rt; "ok {number} {digest:016x}")
-}
-
-fn print_refusal(rt: &HostRuntime, refusal: Refusal, digest: u64) -> io::Result<()> {
-    let number = refusal.number();
-    println!(rt; "no {number} {digest:016x}")
-}
-
-fn print_closing(rt: &HostRuntime, answer: Answer, digest: u64) -> io::Result<()> {
-    let closing = answer.closing();
-    let cause = closing.cause;
-    let price = closing.price;
-    let count = closing.count;
-    let tickets = closing.tickets;
-    println!(rt; "ok {cause} {price} {count} {tickets} {digest:016x}")
-}
-
-// What came of a call of the engine.
-fn print_answer(rt: &HostRuntime, answer: Result<Answer, Refusal>, digest: u64) -> io::Result<()> {
-    match answer {
-        Ok(Answer::Done) => print_done(rt, digest),
-        Ok(Answer::Cancelled { shares }) => print_number(rt, shares, digest),
-        Ok(Answer::Executed { shares }) => print_number(rt, shares, digest),
-        Ok(answer) => print_closing(rt, answer, digest),
-        Err(refusal) => print_refusal(rt, refusal, digest),
-    }
-}
-
-// What came of a change of the venue table.
-fn print_quoted(rt: &HostRuntime, answer: Result<(), Refusal>, digest: u64) -> io::Result<()> {
-    match answer {
-        Ok(()) => print_done(rt, digest),
-        Err(refusal) => print_refusal(rt, refusal, digest),
-    }
-}
-
-// The outstanding ticket, 0 where there is none.
-fn print_outstanding(
-    rt: &HostRuntime,
-    answer: Result<Option<u32>, Refusal>,
-    digest: u64,
-) -> io::Result<()> {
-    match answer {
-        Ok(Some(ticket)) => print_number(rt, u64::from(ticket), digest),
-        Ok(None) => print_number(rt, 0, digest),
-        Err(refusal) => print_refusal(rt, refusal, digest),
-    }
-}
-
-fn play_call(
-    rt: &HostRuntime,
-    call: Call,
-    engine: &mut Engine,
-    venues: &VenueTable,
-    tables: &mut Tables<'_>,
-) -> io::Result<()> {
-    let answer = runs::call(engine, call, venues, tables);
-    print_answer(rt, answer, digest_of(engine, tables))
-}
-
-// Does what a line says, and prints the answer.
-fn play(
-    rt: &HostRuntime,
-    turn: Turn,
-    engine: &mut Engine,
-    venues: &mut VenueTable,
-    tables: &mut Tables<'_>,
-) -> io::Result<()> {
+// Does what a line says: the turns are a closed list, each with values of its own.
+fn play(desk: &mut Desk, turn: Turn) -> Result<Reply, Refusal> {
     match turn {
         Turn::Quote {
             venue,
             side,
             price,
             shares,
-        } => {
-            let answer = venues.set(venue, side, price, shares);
-            print_quoted(rt, answer, digest_of(engine, tables))
-        }
-        Turn::Clear { venue, side } => {
-            let answer = venues.clear(venue, side);
-            print_quoted(rt, answer, digest_of(engine, tables))
-        }
-        Turn::Halted { halted } => {
-            venues.set_halted(halted);
-            print_done(rt, digest_of(engine, tables))
-        }
-        Turn::Made { issue } => {
-            *engine = Engine::new(issue);
-            print_done(rt, digest_of(engine, tables))
-        }
-        Turn::Call { call } => play_call(rt, call, engine, venues, tables),
-        Turn::Outstanding => {
-            let answer = engine.outstanding(tables);
-            print_outstanding(rt, answer, digest_of(engine, tables))
-        }
+        } => desk.venues.set(venue, side, price, shares)?,
+        Turn::Clear { venue, side } => desk.venues.clear(venue, side)?,
+        Turn::Halted { halted } => desk.venues.set_halted(halted),
+        Turn::Made { issue } => desk.engine = Engine::new(issue),
+        Turn::Call { call } => return Ok(Reply::Called(desk.call(call)?)),
+        Turn::Outstanding => return Ok(Reply::Outstanding(desk.outstanding()?)),
     }
-}
-
-fn play_all(
-    rt: &HostRuntime,
-    engine: &mut Engine,
-    venues: &mut VenueTable,
-    tables: &mut Tables<'_>,
-) -> anyhow::Result<()> {
-    for text in BufReader::new(rt.alloc(), rt.stdin())?.lines(rt.alloc()) {
-        let text = text?;
-        let Some(turn) = turn_of(text.as_str()) else {
-            return Err(anyhow!("play_calls: a line is none that it reads"));
-        };
-        play(rt, turn, engine, venues, tables)?;
-    }
-    Ok(())
+    Ok(Reply::Done)
 }
 
 fn main(rt: HostRuntime) -> anyhow::Result<()> {
-    let mut buys = [OrderRow::empty(); ORDER_ROWS];
-    let mut sells = [OrderRow::empty(); ORDER_ROWS];
-    let mut bids = [Quote::none(); QUOTE_ROWS];
-    let mut offers = [Quote::none(); QUOTE_ROWS];
-    let mut tickets = [Ticket::empty(); TICKET_ROWS];
-    let mut tables = Tables {
-        buys: &mut buys,
-        sells: &mut sells,
-        bids: &mut bids,
-        offers: &mut offers,
-        tickets: &mut tickets,
-    };
-    let mut engine = Engine::new(Issue::Ordinary);
-    let mut venues = VenueTable::new();
-    play_all(&rt, &mut engine, &mut venues, &mut tables)
+    let mut desk = Desk::new();
+    for text in BufReader::new(rt.alloc(), rt.stdin())?.lines(rt.alloc()) {
+        let turn = text?.as_str().parse::<Turn>()?;
+        let played = play(&mut desk, turn);
+        let digest = digest_of(&desk);
+        match played {
+            Ok(reply) => println!(rt; "ok{reply} {digest:016x}")?,
+            Err(refusal) => {
+                let number = u32::from(refusal);
+                println!(rt; "no {number} {digest:016x}")?;
+            }
+        }
+    }
+    Ok(())
 }

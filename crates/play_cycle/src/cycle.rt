@@ -1,7 +1,7 @@
 // The phases of the cycle, each with the calls that are made in it.
 use crate::session::{
-    BEGIN, CANCELLED, CLOSE, EARLY_CLOSE, EARLY_MATCH, ENTRIES, FACTS, FINISH, LAST_SALE,
-    LATE_REPORT, MATCH, QUOTES, REPORTS, SMALL_START, START, UNKNOWN,
+    BEGIN, CANCELLED, CLOSE, EARLY_CLOSE, EARLY_MATCH, FACTS, FINISH, LAST_SALE, LATE_REPORT,
+    MATCH, Quoted, REPORTS, UNKNOWN, entries, quotes, starts,
 };
 use call_words::words::{CallWords, Clock, Outcome};
 use desk::depth::Depth;
@@ -10,7 +10,6 @@ use engine::answer::Answer;
 use engine::call::Call;
 use market::best::best_price;
 use market::side::Side;
-use orders::order::Order;
 use report::numbers::{Dollars, Grouped};
 use sheets::sheets::{print_depth, print_outstanding};
 use std::io;
@@ -28,12 +27,19 @@ fn print_best(rt: &HostRuntime, desk: &Desk, side: Side, name: &str) -> io::Resu
 // The venues quote.
 pub fn quote(rt: &HostRuntime, desk: &mut Desk) -> io::Result<()> {
     println!(rt; "What the venues quote")?;
-    for (venue, side, price, shares) in QUOTES {
-        let outcome = match desk.venues.set(venue, side, price, shares) {
-            Ok(()) => Outcome(Ok(Answer::Done)),
-            Err(refusal) => Outcome(Err(refusal)),
+    for quoted in quotes() {
+        let Quoted {
+            venue,
+            side,
+            price,
+            shares,
+        } = quoted;
+        let answer = desk.venues.set(venue, u32::from(side), price, shares);
+        let outcome = Outcome(answer.map(|()| Answer::Done));
+        let does = match side {
+            Side::Buy => "bids",
+            Side::Sell => "offers",
         };
-        let does = if side == 1 { "bids" } else { "offers" };
         let shares = Grouped(u64::from(shares));
         let dollars = Dollars(price);
         println!(rt; "  venue {venue} {does} {shares} at {dollars}: {outcome}")?;
@@ -53,7 +59,7 @@ fn play(rt: &HostRuntime, desk: &mut Desk, call: Call) -> io::Result<()> {
 pub fn begin(rt: &HostRuntime, desk: &mut Desk) -> io::Result<()> {
     println!(rt; "")?;
     println!(rt; "The start")?;
-    for order in [SMALL_START, START] {
+    for order in starts() {
         let call = Call::Begin {
             time: BEGIN,
             order,
@@ -68,14 +74,7 @@ pub fn begin(rt: &HostRuntime, desk: &mut Desk) -> io::Result<()> {
 pub fn enter(rt: &HostRuntime, desk: &mut Desk) -> io::Result<()> {
     println!(rt; "")?;
     println!(rt; "The acceptance")?;
-    for (number, side, class, price, shares) in ENTRIES {
-        let order = Order {
-            number,
-            side,
-            class,
-            price,
-            shares,
-        };
+    for order in entries() {
         play(rt, desk, Call::Enter { order })?;
     }
     Ok(())
@@ -119,8 +118,8 @@ pub fn satisfy(rt: &HostRuntime, desk: &mut Desk) -> io::Result<()> {
     let deadline = Clock(MATCH);
     println!(rt; "Until the deadline, {deadline}")?;
     print_outstanding(rt, desk)?;
-    for (ticket, filled) in REPORTS {
-        play(rt, desk, Call::Report { ticket, filled })?;
+    for report in REPORTS {
+        play(rt, desk, report)?;
     }
     print_outstanding(rt, desk)?;
     play(rt, desk, Call::Match { time: EARLY_MATCH })?;
@@ -131,8 +130,7 @@ pub fn satisfy(rt: &HostRuntime, desk: &mut Desk) -> io::Result<()> {
 pub fn finish(rt: &HostRuntime, desk: &mut Desk) -> io::Result<()> {
     println!(rt; "")?;
     println!(rt; "After the match")?;
-    let (ticket, filled) = LATE_REPORT;
-    play(rt, desk, Call::Report { ticket, filled })?;
+    play(rt, desk, LATE_REPORT)?;
     print_outstanding(rt, desk)?;
     play(rt, desk, Call::Finish { time: FINISH })
 }

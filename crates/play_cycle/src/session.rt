@@ -1,7 +1,8 @@
 // The session that is played: what the venues quote, and what members enter.
-use engine::call::Facts;
+use engine::call::{Call, Facts};
 use engine::limits::TICKET_TIME;
-use orders::order::Order;
+use market::side::Side;
+use orders::order::{Class, Order};
 
 // Times of the day, in milliseconds since midnight.
 pub const BEGIN: u32 = 36_900_000;
@@ -27,67 +28,100 @@ pub const FACTS: Facts = Facts {
     acceptance: 500,
 };
 
-const BUY: u32 = 1;
+// A quote of a venue.
+#[derive(Clone, Copy)]
+pub struct Quoted {
+    pub venue: u32,
+    pub side: Side,
+    pub price: u32,
+    pub shares: u32,
+}
 
-const SELL: u32 = 2;
+fn quote(venue: u32, side: Side, price: u32, shares: u32) -> Quoted {
+    Quoted {
+        venue,
+        side,
+        price,
+        shares,
+    }
+}
 
-const DISPLAYED: u32 = 0;
+// What the venues quote.
+pub fn quotes() -> [Quoted; 8] {
+    [
+        quote(2, Side::Buy, 1_039_600, 1_000),
+        quote(5, Side::Buy, 1_039_400, 800),
+        quote(8, Side::Buy, 1_039_600, 1_500),
+        quote(11, Side::Buy, 1_039_000, 600),
+        quote(2, Side::Sell, 1_040_400, 1_200),
+        quote(5, Side::Sell, 1_040_200, 700),
+        quote(8, Side::Sell, 1_040_600, 1_000),
+        quote(11, Side::Sell, 1_041_200, 900),
+    ]
+}
 
-const RESERVE: u32 = 1;
+fn order(number: u32, side: Side, class: Class, price: u32, shares: u32) -> Order {
+    Order {
+        number,
+        side: u32::from(side),
+        class: u32::from(class),
+        price,
+        shares,
+    }
+}
 
-const HIDDEN: u32 = 2;
+// The start order with some shares.
+fn start_with(shares: u32) -> Order {
+    order(101, Side::Buy, Class::Displayed, 1_040_600, shares)
+}
 
-// A quote of a venue: venue, side, price, shares.
-pub const QUOTES: [(u32, u32, u32, u32); 8] = [
-    (2, BUY, 1_039_600, 1_000),
-    (5, BUY, 1_039_400, 800),
-    (8, BUY, 1_039_600, 1_500),
-    (11, BUY, 1_039_000, 600),
-    (2, SELL, 1_040_400, 1_200),
-    (5, SELL, 1_040_200, 700),
-    (8, SELL, 1_040_600, 1_000),
-    (11, SELL, 1_041_200, 900),
-];
+// The start order with too few shares, and as it is granted.
+pub fn starts() -> [Order; 2] {
+    [start_with(9_000), start_with(12_000)]
+}
 
-// The start order, and the same with too few shares.
-pub const START: Order = Order {
-    number: 101,
-    side: BUY,
-    class: DISPLAYED,
-    price: 1_040_600,
-    shares: 12_000,
-};
-
-pub const SMALL_START: Order = Order {
-    shares: 9_000,
-    ..START
-};
-
-// The orders of the acceptance, as they come: number, side, class, price, shares. The last has the
-// number of another.
-pub const ENTRIES: [(u32, u32, u32, u32, u32); 13] = [
-    (102, BUY, HIDDEN, 1_041_200, 1_000),
-    (204, SELL, HIDDEN, 1_040_400, 4_000),
-    (205, SELL, DISPLAYED, 1_040_400, 1_200),
-    (103, BUY, RESERVE, 1_040_600, 1_500),
-    (202, SELL, RESERVE, 1_040_400, 3_000),
-    (107, BUY, DISPLAYED, 1_040_600, 2_000),
-    (105, BUY, DISPLAYED, 1_040_600, 800),
-    (203, SELL, DISPLAYED, 1_040_400, 2_500),
-    (104, BUY, DISPLAYED, 1_041_000, 900),
-    (201, SELL, DISPLAYED, 1_040_600, 3_300),
-    (106, BUY, HIDDEN, 1_040_000, 1_000),
-    (206, SELL, DISPLAYED, 1_041_600, 2_000),
-    (203, SELL, DISPLAYED, 1_040_000, 500),
-];
+// The orders of the acceptance, as they come. The last has the number of another.
+pub fn entries() -> [Order; 13] {
+    [
+        order(102, Side::Buy, Class::Hidden, 1_041_200, 1_000),
+        order(204, Side::Sell, Class::Hidden, 1_040_400, 4_000),
+        order(205, Side::Sell, Class::Displayed, 1_040_400, 1_200),
+        order(103, Side::Buy, Class::Reserve, 1_040_600, 1_500),
+        order(202, Side::Sell, Class::Reserve, 1_040_400, 3_000),
+        order(107, Side::Buy, Class::Displayed, 1_040_600, 2_000),
+        order(105, Side::Buy, Class::Displayed, 1_040_600, 800),
+        order(203, Side::Sell, Class::Displayed, 1_040_400, 2_500),
+        order(104, Side::Buy, Class::Displayed, 1_041_000, 900),
+        order(201, Side::Sell, Class::Displayed, 1_040_600, 3_300),
+        order(106, Side::Buy, Class::Hidden, 1_040_000, 1_000),
+        order(206, Side::Sell, Class::Displayed, 1_041_600, 2_000),
+        order(203, Side::Sell, Class::Displayed, 1_040_000, 500),
+    ]
+}
 
 // The order that its member cancels, and a number that no order has.
 pub const CANCELLED: u32 = 107;
 
 pub const UNKNOWN: u32 = 999;
 
-// What the venues report of tickets: ticket, shares filled. The first is more than the ticket has.
-pub const REPORTS: [(u32, u32); 3] = [(1, 900), (1, 500), (2, 300)];
+// What the venues report of tickets. The first is more than the ticket has.
+pub const REPORTS: [Call; 3] = [
+    Call::Report {
+        ticket: 1,
+        filled: 900,
+    },
+    Call::Report {
+        ticket: 1,
+        filled: 500,
+    },
+    Call::Report {
+        ticket: 2,
+        filled: 300,
+    },
+];
 
 // What is reported after the match. The fourth ticket is never reported.
-pub const LATE_REPORT: (u32, u32) = (3, 600);
+pub const LATE_REPORT: Call = Call::Report {
+    ticket: 3,
+    filled: 600,
+};

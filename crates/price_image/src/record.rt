@@ -1,36 +1,35 @@
 // The record of one pricing.
-ghost use Rattle.std.specs.Prelude.{◌≤◌};
+ghost use Rattle.std.specs.Prelude.{◌<◌, IfOk};
+ghost use Rattle.std.specs.List.{All};
 
+use crate::prices::Prices;
 use crate::request::Request;
 use image::image::BookImage;
-use market::limits::HIGHEST_PRICE;
 use market::side::Side;
 use market::source::QuoteSource;
 use pricing::cause::Cause;
 use pricing::close::reference_price;
+use pricing::snap::Snap;
 use pricing::view::BookView;
 use report::numbers::{Column, Dollars, Grouped};
-use report::words::cause_words;
+use std::alloc::{AllocError, Global};
 use std::io;
 
 pub fn print_request(rt: &HostRuntime, request: &Request, bytes: usize) -> io::Result<()> {
     let path = request.path.as_str();
     println!(rt; "SNAP pricing of {path}, {bytes} bytes")?;
-    if request.last_sale == 0 {
+    let Some(sale) = request.last_sale else {
         return println!(rt; "last eligible sale: none");
-    }
-    let dollars = Dollars(request.last_sale);
-    let points = Grouped(u64::from(request.last_sale));
+    };
+    let dollars = Dollars(sale);
+    let points = Grouped(u64::from(sale));
     println!(rt; "last eligible sale: {dollars} ({points} points)")
 }
 
 fn print_orders(rt: &HostRuntime, book: &BookImage<'_>, side: Side, name: &str) -> io::Result<()> {
-    for place in 0..usize::MAX {
-        let Some(order) = book.order(side, place) else {
-            break;
-        };
-        let shares = Column(u64::from(order.shares));
-        let points = Column(u64::from(order.price));
+    for order in book.orders(side).levels() {
+        let shares = Column::<14>(u64::from(order.shares));
+        let points = Column::<14>(u64::from(order.price));
         let dollars = Dollars(order.price);
         println!(rt; "  {name:<9}{shares}{points}   {dollars}")?;
     }
@@ -38,13 +37,10 @@ fn print_orders(rt: &HostRuntime, book: &BookImage<'_>, side: Side, name: &str) 
 }
 
 fn print_quotes(rt: &HostRuntime, book: &BookImage<'_>, side: Side, name: &str) -> io::Result<()> {
-    for place in 0..book.count(side) {
-        let Some(quote) = book.quote(side, place) else {
-            break;
-        };
+    for quote in book.quotes(side) {
         let venue = quote.venue;
-        let shares = Column(u64::from(quote.shares));
-        let points = Column(u64::from(quote.price));
+        let shares = Column::<14>(u64::from(quote.shares));
+        let points = Column::<14>(u64::from(quote.price));
         let dollars = Dollars(quote.price);
         println!(rt; "  {name:<6}{venue:<3}{shares}{points}   {dollars}")?;
     }
@@ -62,68 +58,45 @@ pub fn print_book(rt: &HostRuntime, book: &BookImage<'_>) -> io::Result<()> {
 
 // Demand, supply and count at a price.
 fn print_level(rt: &HostRuntime, book: &BookImage<'_>, price: u32, mark: &str) -> io::Result<()> {
-    let points = Column(u64::from(price));
-    let demand = Column(book.demand(price));
-    let supply = Column(book.supply(price));
-    let count = Column(book.demand(price).min(book.supply(price)));
+    let points = Column::<14>(u64::from(price));
+    let demand = Column::<14>(book.demand(price));
+    let supply = Column::<14>(book.supply(price));
+    let count = Column::<14>(book.count_at(price));
     println!(rt; "{points}{demand}{supply}{count}{mark}")
 }
 
 // How many prices of the book are shown on each side of the middle.
 const SHOWN: usize = 4;
 
-// The lowest of the last prices of the book before a price, as many as are shown.
-fn first_shown(book: &BookImage<'_>, middle: u32) -> u32
-    ensures { result ≤ middle }
+// The prices of the book below one, the lowest first.
+fn prices_below(alloc: Global, book: &BookImage<'_>, middle: u32) -> Result<Vec<u32>, AllocError>
+    ensures { IfOk result (λ prices. All (λ price. price < middle) prices.items) }
 {
-    let mut shown = [0; SHOWN];
-    let mut price = book.next_price(0);
-    for turn in 0..2_000usize {
-        if price >= middle {
-            break;
-        }
-        shown[turn % SHOWN] = price;
-        price = book.next_price(price);
-    }
-    let mut first = middle;
-    for price in shown {
-        if price > 0 && price < first {
-            first = price;
-        }
-    }
-    first
+    Prices::above(*book, 0)
+        .take_while(|price| *price < middle)
+        .collect(alloc)
 }
 
 // Demand and supply at the prices of the book around a price, the highest last.
 fn print_around(rt: &HostRuntime, book: &BookImage<'_>, middle: u32) -> io::Result<()> {
     println!(rt; "")?;
     println!(rt; "Around the price      demand        supply         count")?;
-    let mut price = first_shown(book, middle);
-    for _ in 0..SHOWN {
-        if price >= middle {
-            break;
-        }
-        print_level(rt, book, price, "")?;
-        price = book.next_price(price);
+    let below = prices_below(rt.alloc(), book, middle)?;
+    for price in below.iter().skip(below.len().saturating_sub(SHOWN)) {
+        print_level(rt, book, *price, "")?;
     }
     print_level(rt, book, middle, "  <")?;
-    print_above(rt, book, middle)
-}
-
-fn print_above(rt: &HostRuntime, book: &BookImage<'_>, middle: u32) -> io::Result<()> {
-    let mut above = middle;
-    for _ in 0..SHOWN {
-        let next = book.next_price(above);
-        if next >= HIGHEST_PRICE || next <= above {
-            break;
-        }
-        print_level(rt, book, next, "")?;
-        above = next;
+    for price in Prices::above(*book, middle).take(SHOWN) {
+        print_level(rt, book, price, "")?;
     }
     Ok(())
 }
 
-fn print_reference(rt: &HostRuntime, last_sale: u32, reference: Option<u32>) -> io::Result<()> {
+fn print_reference(
+    rt: &HostRuntime,
+    last_sale: Option<u32>,
+    reference: Option<u32>,
+) -> io::Result<()> {
     let Some(price) = reference else {
         return println!(rt;
             "reference  none: there is no last sale, and not both a bid and an offer"
@@ -131,7 +104,7 @@ fn print_reference(rt: &HostRuntime, last_sale: u32, reference: Option<u32>) -> 
     };
     let dollars = Dollars(price);
     let points = Grouped(u64::from(price));
-    let origin = if last_sale != 0 {
+    let origin = if last_sale.is_some() {
         "the last sale"
     } else {
         "halfway between best bid and best offer"
@@ -139,9 +112,9 @@ fn print_reference(rt: &HostRuntime, last_sale: u32, reference: Option<u32>) -> 
     println!(rt; "reference  {dollars} ({points} points), {origin}")
 }
 
-fn print_cause(rt: &HostRuntime, outcome: Result<(u32, u64), Cause>) -> io::Result<()> {
+fn print_cause(rt: &HostRuntime, outcome: Result<Snap, Cause>) -> io::Result<()> {
     match outcome {
-        Ok((price, count)) => {
+        Ok(Snap { price, count }) => {
             let dollars = Dollars(price);
             let points = Grouped(u64::from(price));
             let count = Grouped(count);
@@ -150,9 +123,8 @@ fn print_cause(rt: &HostRuntime, outcome: Result<(u32, u64), Cause>) -> io::Resu
             println!(rt; "count      {count} shares")
         }
         Err(cause) => {
-            let number = cause.number();
-            let words = cause_words(cause);
-            println!(rt; "cause      {number}, {words}")
+            let number = u32::from(cause);
+            println!(rt; "cause      {number}, {cause}")
         }
     }
 }
@@ -160,16 +132,16 @@ fn print_cause(rt: &HostRuntime, outcome: Result<(u32, u64), Cause>) -> io::Resu
 pub fn print_outcome(
     rt: &HostRuntime,
     book: &BookImage<'_>,
-    last_sale: u32,
-    outcome: Result<(u32, u64), Cause>,
+    last_sale: Option<u32>,
+    outcome: Result<Snap, Cause>,
 ) -> io::Result<()> {
     let reference = reference_price(
-        last_sale,
+        last_sale.unwrap_or(0),
         book.best_quote(Side::Buy),
         book.best_quote(Side::Sell),
     );
     let middle = match outcome {
-        Ok((price, _)) => price,
+        Ok(snap) => snap.price,
         Err(_) => reference.unwrap_or(book.next_price(0)),
     };
     print_around(rt, book, middle)?;

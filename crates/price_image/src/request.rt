@@ -12,34 +12,32 @@ const SAMPLE_SALE: u32 = 200_290;
 #[derive(Drop)]
 pub struct Request {
     pub path: String,
-    pub last_sale: u32,
+    pub last_sale: Option<u32>,
 }
 
 // A last sale from its decimal digits.
-fn parse_sale(rt: &HostRuntime, text: &str) -> anyhow::Result<u32>
+fn parse_sale(text: &str) -> anyhow::Result<u32>
     ensures { ParsesUnsigned 32 10 text.now result }
 {
-    match text.parse::<u32>() {
-        Ok(sale) => Ok(sale),
-        Err(e) => Err(anyhow!(format!(in rt.alloc();
-            "the last sale '{text}' is not a number of points: {e}"
-        )?)),
-    }
+    text.parse::<u32>().map_err(|e| anyhow!(
+        "the last sale '{text}' is not a number of points: {e}"
+    ))
 }
 
 impl Request {
-    // The words after the program's name: an image and a last sale, each of which may be left out.
+    // The words after the program's name: an image and a last sale, each of which may be left out. A last sale of 0
+    // is none.
     pub fn from_arguments(rt: &HostRuntime) -> anyhow::Result<Request> {
         let mut words = env::args(rt)?.skip(1);
         let Some(path) = words.next() else {
             return Ok(Request {
                 path: String::from_str(rt.alloc(), SAMPLE)?,
-                last_sale: SAMPLE_SALE,
+                last_sale: Some(SAMPLE_SALE),
             });
         };
         let last_sale = match words.next() {
-            Some(word) => parse_sale(rt, word.as_str())?,
-            None => 0,
+            Some(word) => Some(parse_sale(word.as_str())?).filter(|sale| *sale != 0),
+            None => None,
         };
         if words.next().is_some() {
             return Err(anyhow!("usage: price_image [IMAGE [LAST-SALE]]"));

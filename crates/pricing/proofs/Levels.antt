@@ -1,7 +1,7 @@
 -- Sums over shares at prices: how they move with the price.
 use Rattle.std.proofs.Common.{◌≡◌, ℕ, ◌+◌, ◌-◌, ◌<◌, ◌≤◌, cond, ltb, leb, ◌⊎◌, List, [], ◌∷◌, map, sum_by, refl, ap, ◌∙◌, arith}
 use Rattle.std.specs.List.{AllByRecursion}
-use Rattle.std.proofs.lemmas.List.Sums.{sum_by-cons}
+use Rattle.std.proofs.lemmas.List.Sums.{sum_by-cons, sum_by-le-sum_by}
 use Rattle.std.proofs.lemmas.Bool.Decides.{nat_tests}
 use Rattle.market.proofs.Grid.{grid}
 use Rattle.market.specs.Prices.{Permitted}
@@ -10,8 +10,7 @@ use Rattle.pricing.specs.Books.{at_or_above, at_or_below, above, below, Standing
 
 -- a sum is no less where each part is no less
 pub sum_by_mono : {X : Type 0} (f g : X → ℕ) → ((x : X) → f x ≤ g x) → (xs : List X) → sum_by f xs ≤ sum_by g xs
-sum_by_mono f g h [] = omega arith
-sum_by_mono f g h (x ∷ xs) = omega (arith, sum_by-cons f x xs, sum_by-cons g x xs, h x, sum_by_mono f g h xs)
+sum_by_mono f g h xs = sum_by-le-sum_by f g xs h
 
 -- a sum is the same where each part is, of elements that P holds of
 pub sum_by_same : {X : Type 0} (P : X → Type 0) (f g : X → ℕ) → ((x : X) → P x → f x ≡ g x) → (xs : List X) → AllByRecursion P xs → sum_by f xs ≡ sum_by g xs
@@ -61,15 +60,15 @@ none_above_part q p s h = grind (arith, nat_tests)
 -- what is at a price or higher falls as the price rises; what is at it or lower, and below it, rises
 pub at_or_above_falls : (a b : ℕ) → a ≤ b → (ls : List Level) → at_or_above b ls ≤ at_or_above a ls
 unfolding at_or_above
-at_or_above_falls a b h ls = sum_by_mono _ _ (λ l. part_above_falls a b l.price l.shares h) ls
+at_or_above_falls a b h ls = sum_by-le-sum_by _ _ ls (λ l. part_above_falls a b l.price l.shares h)
 
 pub at_or_below_rises : (a b : ℕ) → a ≤ b → (ls : List Level) → at_or_below a ls ≤ at_or_below b ls
 unfolding at_or_below
-at_or_below_rises a b h ls = sum_by_mono _ _ (λ l. part_below_rises a b l.price l.shares h) ls
+at_or_below_rises a b h ls = sum_by-le-sum_by _ _ ls (λ l. part_below_rises a b l.price l.shares h)
 
 pub below_mono : (a b : ℕ) → a ≤ b → (ls : List Level) → below a ls ≤ below b ls
 unfolding below
-below_mono a b h ls = sum_by_mono _ _ (λ l. below_rises a b l.price l.shares h) ls
+below_mono a b h ls = sum_by-le-sum_by _ _ ls (λ l. below_rises a b l.price l.shares h)
 
 -- above q is at q + 1 or higher; below q + 1 is at q or lower
 pub above_is : (q : ℕ) (ls : List Level) → above q ls ≡ at_or_above (q + 1) ls

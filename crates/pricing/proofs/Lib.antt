@@ -4,6 +4,7 @@ pub mod Steps
 pub mod Rows
 pub mod Choosing
 pub mod Next
+pub mod Executable
 pub mod Outcomes
 pub mod Standing
 pub mod Alike

@@ -1,24 +1,46 @@
 // Why a close fixes no price. A close that fixes one has the cause number 0.
 ghost use Rattle.std.specs.Prelude.{◌≡◌};
 ghost use Rattle.pricing.specs.Closing.{cause_number};
+ghost use Rattle.pricing.specs.Causes.{cause_words};
+
+use std::error::Error;
+use std::fmt;
 
 #[derive(Clone, Copy, Debug, PartialEq, Eq)]
 pub enum Cause {
-    NothingToTrade,
-    LockedOrCrossed,
-    NoReference,
-    Halted,
+    NothingToTrade = 1,
+    LockedOrCrossed = 2,
+    NoReference = 3,
+    Halted = 4,
 }
 
 impl Cause {
-    pub fn number(self) -> u32
-        ensures { result ≡ cause_number self }
+    pub fn words(self) -> &'static str
+        ensures { result.now ≡ cause_words self }
     {
         match self {
-            Cause::NothingToTrade => 1,
-            Cause::LockedOrCrossed => 2,
-            Cause::NoReference => 3,
-            Cause::Halted => 4,
+            Cause::NothingToTrade => "nothing to trade: no price finds both a buyer and a seller",
+            Cause::LockedOrCrossed =>
+                "the outside market is locked or crossed: the best bid reaches the best offer",
+            Cause::NoReference =>
+                "several prices are possible, and there is no reference to choose by",
+            Cause::Halted => "trading in the security is halted",
         }
     }
 }
+
+impl From<Cause> for u32 {
+    ghost from_gives = { λ cause number. number ≡ cause_number cause };
+
+    fn from(cause: Cause) -> u32 {
+        cause as u32
+    }
+}
+
+impl fmt::Display for Cause {
+    fn fmt<W: fmt::Write>(&self, f: &mut fmt::Formatter<W>) -> fmt::Result {
+        f.write_str(self.words())
+    }
+}
+
+impl Error for Cause {}

@@ -7,6 +7,7 @@ ghost use Rattle.pricing.specs.Closing.{Best, Closing, Orderly, Snapped, touchin
 use crate::cause::Cause;
 use crate::ladder::nearest;
 use crate::range::{highest, lowest};
+use crate::snap::Snap;
 use crate::view::BookView;
 use market::side::Side;
 
@@ -14,10 +15,7 @@ use market::side::Side;
 pub fn locked_or_crossed(bid: Option<u32>, offer: Option<u32>) -> bool
     ensures { result ≡ touching bid offer }
 {
-    match (bid, offer) {
-        (Some(bid), Some(offer)) => bid >= offer,
-        _ => false,
-    }
+    bid.zip(offer).is_some_and(|(bid, offer)| bid >= offer)
 }
 
 // The price by which one of several candidates is chosen: the last eligible sale, if it is not 0,
@@ -25,43 +23,35 @@ pub fn locked_or_crossed(bid: Option<u32>, offer: Option<u32>) -> bool
 pub fn reference_price(last_sale: u32, bid: Option<u32>, offer: Option<u32>) -> Option<u32>
     ensures { result ≡ reference_of last_sale bid offer }
 {
+    // The rules, and images, say by 0 that there was no sale.
     if last_sale != 0 {
         return Some(last_sale);
     }
-    match (bid, offer) {
-        (Some(bid), Some(offer)) => Some(((bid as u64 + offer as u64) / 2) as u32),
-        _ => None,
-    }
-}
-
-// How many shares find both a buyer and a seller at a price.
-fn count_at<B: BookView>(view: &B, price: u32) -> u64
-    ensures { result ≡ count_at (B.book view.now) price }
-{
-    view.demand(price).min(view.supply(price))
+    bid.zip(offer).map(|(bid, offer)| bid.midpoint(offer))
 }
 
 // The SNAP Price under a reference, and its count.
-fn snap<B: BookView>(view: &B, reference: Option<u32>) -> Result<(u32, u64), Cause>
+fn snap<B: BookView>(view: &B, reference: Option<u32>) -> Result<Snap, Cause>
     ensures { Sound (B.book view.now) → Snapped (B.book view.now) reference result }
 {
     let low = lowest(view);
     let high = highest(view, low);
-    let count = count_at(view, low);
+    let count = view.count_at(low);
     if count == 0 {
         return Err(Cause::NothingToTrade);
     }
     if low == high {
-        return Ok((low, count));
+        return Ok(Snap { price: low, count });
     }
-    match reference {
-        Some(reference) => Ok((nearest(low, high, reference), count)),
-        None => Err(Cause::NoReference),
-    }
+    let Some(reference) = reference else {
+        return Err(Cause::NoReference);
+    };
+    let price = nearest(low, high, reference);
+    Ok(Snap { price, count })
 }
 
 // The outcome by the order of the causes.
-fn settle<B: BookView>(view: &B, halted: bool, last_sale: u32) -> Result<(u32, u64), Cause>
+fn settle<B: BookView>(view: &B, halted: bool, last_sale: u32) -> Result<Snap, Cause>
     ensures { Sound (B.book view.now) → Closing halted (B.book view.now) last_sale result }
 {
     if halted {
@@ -77,7 +67,7 @@ fn settle<B: BookView>(view: &B, halted: bool, last_sale: u32) -> Result<(u32, u
 
 // The outcome of a close on a book of permitted prices: the SNAP Price and its count, or the cause why
 // there is none. On any other book it answers too, but its answer is free.
-pub fn close_price<B: BookView>(view: &B, halted: bool, last_sale: u32) -> Result<(u32, u64), Cause>
+pub fn close_price<B: BookView>(view: &B, halted: bool, last_sale: u32) -> Result<Snap, Cause>
     ensures outcome { Sound (B.book view.now) → Closing halted (B.book view.now) last_sale result }
     ensures best { Sound (B.book view.now) → Best (B.book view.now) result }
     ensures nothing { Sound (B.book view.now) → Orderly halted (B.book view.now) → ((q : ℕ) → count_at (B.book view.now) q ≡ 0) → result ≡ Err NothingToTrade }

@@ -5,6 +5,7 @@ ghost use Rattle.pricing.specs.Ranges.{price_at, nearer_of, Around, Within};
 ghost use Rattle.pricing.specs.Candidates.{Chosen};
 
 use market::limits::{CENT, DOLLAR, FINE_STEP};
+use std::cmp::Ordering;
 
 // How many permitted prices there are.
 pub(crate) const PRICES: u32 = 20_009_900;
@@ -40,12 +41,10 @@ fn nearer(reference: u32, below: u32, above: u32) -> u32
 {
     let down = reference.saturating_sub(below);
     let up = above.saturating_sub(reference);
-    if down < up {
-        below
-    } else if up < down {
-        above
-    } else {
-        reference
+    match down.cmp(&up) {
+        Ordering::Less => below,
+        Ordering::Greater => above,
+        Ordering::Equal => reference,
     }
 }
 

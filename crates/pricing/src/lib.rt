@@ -6,4 +6,5 @@ pub mod ladder;
 pub mod laws;
 pub mod level;
 pub mod range;
+pub mod snap;
 pub mod view;

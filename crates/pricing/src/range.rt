@@ -1,38 +1,23 @@
 // The candidates of a book of permitted prices stand in a row: the lowest of them, and the highest.
-ghost use Rattle.std.specs.Prelude.{◌≡◌, ◌+◌, ◌≤◌, ◌==◌, nat_le};
-ghost use Rattle.pricing.specs.Books.{Sound, demand_at, supply_at};
+ghost use Rattle.std.specs.Prelude.{◌≤◌};
+ghost use Rattle.pricing.specs.Books.{Sound};
 ghost use Rattle.pricing.specs.Ranges.{Lowest, Highest};
 
 use crate::ladder::{PRICES, price_at};
 use crate::view::BookView;
-
-// Whether the shares wanted above a price can be had at it.
-fn is_served<B: BookView>(view: &B, price: u32) -> bool
-    requires { price ≤ 4000000000 }
-    ensures { result ≡ nat_le (demand_at (B.book view.now) (price + 1)) (supply_at (B.book view.now) price) }
-{
-    view.demand(price + 1) <= view.supply(price)
-}
-
-// Whether the shares wanted above a price are just those to be had at it.
-fn is_balanced<B: BookView>(view: &B, price: u32) -> bool
-    requires { price ≤ 4000000000 }
-    ensures { result ≡ (demand_at (B.book view.now) (price + 1) == supply_at (B.book view.now) price) }
-{
-    view.demand(price + 1) == view.supply(price)
-}
 
 // The least permitted price at which what is wanted above it can be had.
 pub(crate) fn lowest<B: BookView>(view: &B) -> u32
     ensures inside { (2 ≤ result) × (result ≤ 4000000000) }
     ensures lowest { Sound (B.book view.now) → Lowest (B.book view.now) result }
 {
+    // The permitted prices are numbered and not listed: there is no slice to search.
     let mut low = 0;
     let mut high = PRICES;
     while low + 1 < high {
-        let mid = low + (high - low) / 2;
+        let mid = low.midpoint(high);
         let price = price_at(mid);
-        if is_served(view, price) {
+        if view.demand(price + 1) <= view.supply(price) {
             high = mid;
         } else {
             low = mid;
@@ -48,7 +33,7 @@ pub(crate) fn highest<B: BookView>(view: &B, lowest: u32) -> u32
     ensures inside { result ≤ 4000000000 }
     ensures highest { Sound (B.book view.now) → Lowest (B.book view.now) lowest → Highest (B.book view.now) result }
 {
-    if is_balanced(view, lowest) {
+    if view.demand(lowest + 1) == view.supply(lowest) {
         view.next_price(lowest)
     } else {
         lowest

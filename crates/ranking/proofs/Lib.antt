@@ -2,4 +2,3 @@ pub mod Insertion
 pub mod Orders
 pub mod Listed
 pub mod Ranks
-pub mod Firsts

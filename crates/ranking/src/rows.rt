@@ -1,4 +1,4 @@
-// The first rows of a table.
+// The first rows of a table: its rows are fixed memory, with the number of used ones beside them.
 ghost use Rattle.std.specs.Prelude.{◌≡◌, ◌≤◌, length, take};
 
 // The first `used` rows; all of them where there are fewer.
@@ -7,5 +7,5 @@ pub fn first_rows<T>(rows: &[T], used: usize) -> &[T]
     ensures within { length result.now ≤ length rows.now }
     ensures few { length result.now ≤ used }
 {
-    &rows[0..used.min(rows.len())]
+    rows.get(..used).unwrap_or(rows)
 }

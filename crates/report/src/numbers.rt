@@ -6,7 +6,7 @@ use market::limits::DOLLAR;
 use std::fmt;
 
 // Shares, or any count, in groups of three digits.
-#[derive(Clone, Copy)]
+#[derive(Clone, Copy, Debug, PartialEq, Eq)]
 pub struct Grouped(pub u64);
 
 impl fmt::Display for Grouped {
@@ -28,7 +28,7 @@ impl fmt::Display for Grouped {
 }
 
 // A price in dollars, from its points.
-#[derive(Clone, Copy)]
+#[derive(Clone, Copy, Debug, PartialEq, Eq)]
 pub struct Dollars(pub u32);
 
 impl fmt::Display for Dollars {
@@ -40,34 +40,22 @@ impl fmt::Display for Dollars {
 }
 
 // How many characters a count takes in groups of three digits; 14 for ten billion and more.
+#[tactic(auto, using(crate::proofs::Widths::width_is))]
 fn grouped_width(n: u64) -> usize
     ensures { result ≡ grouped_width n }
 {
-    match n {
-        0..=9 => 1,
-        10..=99 => 2,
-        100..=999 => 3,
-        1_000..=9_999 => 5,
-        10_000..=99_999 => 6,
-        100_000..=999_999 => 7,
-        1_000_000..=9_999_999 => 9,
-        10_000_000..=99_999_999 => 10,
-        100_000_000..=999_999_999 => 11,
-        1_000_000_000..=9_999_999_999 => 13,
-        _ => 14,
-    }
+    let tens = n.max(1).ilog10() as usize;
+    (tens + 1 + tens / 3).min(14)
 }
 
-// A count at the right end of a column of 14.
-#[derive(Clone, Copy)]
-pub struct Column(pub u64);
+// A count at the right end of a column.
+#[derive(Clone, Copy, Debug, PartialEq, Eq)]
+pub struct Column<const WIDTH: usize>(pub u64);
 
-impl fmt::Display for Column {
+impl<const WIDTH: usize> fmt::Display for Column<WIDTH> {
     fn fmt<W: fmt::Write>(&self, f: &mut fmt::Formatter<W>) -> fmt::Result {
-        for _ in grouped_width(self.0)..14 {
-            write!(f, " ")?;
-        }
+        let blanks = WIDTH.saturating_sub(grouped_width(self.0));
         let grouped = Grouped(self.0);
-        write!(f, "{grouped}")
+        write!(f, "{:blanks$}{grouped}", "")
     }
 }

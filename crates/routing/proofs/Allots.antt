@@ -1,15 +1,15 @@
 -- In a ranked list with no two level entries, what stands before an entry is what is ahead of it.
-use Rattle.std.proofs.Common.{◌≡◌, ℕ, zero, suc, ◌+◌, ◌-◌, ◌<◌, ◌≤◌, min, Bool, true, false, cond, List, [], ◌∷◌, map, length, get_or, sym, refl, ap, ◌∙◌, inl, inr, arith}
+use Rattle.std.proofs.Common.{◌≡◌, ℕ, zero, suc, ◌+◌, ◌-◌, ◌<◌, ◌≤◌, min, Bool, true, false, cond, List, [], ◌∷◌, map, length, get_or, sym, refl, ap, arith}
 use Rattle.std.specs.List.{AllByRecursion}
 use Rattle.std.proofs.lemmas.List.Sums.{sum_by-cons}
 use Rattle.std.proofs.ByRecursion.{All-get_or}
-use Rattle.std.proofs.lemmas.Bool.{cases_Bool, cond-true, cond-false}
+use Rattle.std.proofs.lemmas.Bool.{cond-true, cond-false}
 use Rattle.ranking.specs.Ranked.{Sorted, Distinct, level}
 use Rattle.routing.specs.Shares.{start}
 use Rattle.routing.specs.Allotment.{ahead_of}
 use Rattle.std.proofs.lemmas.List.{length-map, get_or-map}
 use Rattle.orders.specs.declared.row.OrderRow.{OrderRow}
-use Rattle.orders.specs.Rows.{empty_row, is_whole}
+use Rattle.orders.specs.Rows.{empty_row}
 use Rattle.orders.specs.Tables.{available, if_whole, handed}
 use Rattle.routing.specs.Laws.{WalkAllots, RowsHanded, NoneKeptAhead}
 use Rattle.routing.proofs.Sums.{start_after}
@@ -20,12 +20,12 @@ module _ {E : Type 0} (ahead : E → E → Bool) (size : E → ℕ) (apart : (a 
   first_ahead x y h b = grind arith
 
   not_itself : (x : E) → ahead x x ≡ false
-  not_itself x = elim (cases_Bool (ahead x x)) [ inl t ↦ apart x x t | inr f ↦ f ]
+  not_itself x = grind (arith, apart x x)
 
   -- no entry behind o counts
   none_ahead : (o : E) (xs : List E) → AllByRecursion (λ y. ahead y o ≡ false) xs → ahead_of ahead size o xs ≡ 0
   none_ahead o [] h = refl
-  none_ahead o (x ∷ xs) h = omega (arith, sum_by-cons (λ y. cond (ahead y o) (size y) 0) x xs, cond-false (ahead x o) (size x) 0 h.0, none_ahead o xs h.1)
+  none_ahead o (x ∷ xs) h = grind (arith, sum_by-cons (λ y. cond (ahead y o) (size y) 0) x xs, h.0, none_ahead o xs h.1)
 
   rest_distinct : (x : E) (xs : List E) → Distinct ahead (x ∷ xs) → Distinct ahead xs
   rest_distinct x xs h i j d l k ne = h (suc i) (suc j) d (omega arith) (omega arith) (λ e. ne (omega arith))
@@ -57,17 +57,9 @@ rows_handed ahead apart g ws s ne k i h =
     let e = start_ahead ahead available apart ws s ne i empty_row h in
     rw e (handed_at g k ws i h)
 
-cond_zero : (b : Bool) → ◌≡◌ {A = ℕ} (cond b 0 0) 0
-cond_zero true = refl
-cond_zero false = refl
-
 -- a row that gives all it can keeps nothing that can be moved
-kept_none : (g : ℕ → OrderRow → OrderRow) → ((n : ℕ) (w : OrderRow) → (g n w).rest ≡ w.rest - n) → (n : ℕ) (w : OrderRow) (t : Bool) → is_whole w ≡ t → available w ≤ n → available (if_whole (g n) w) ≡ 0
-kept_none g takes n w true e h =
-    let all : available w ≡ w.rest = ap (λ b. cond b w.rest 0) e in
-    let none : (g n w).rest ≡ 0 = omega (arith, takes n w, all) in
-    ap available (ap (λ b. cond b (g n w) w) e) ∙ ap (λ x. cond (is_whole (g n w)) x 0) none ∙ cond_zero (is_whole (g n w))
-kept_none g takes n w false e h = ap available (ap (λ b. cond b (g n w) w) e) ∙ ap (λ b. cond b w.rest 0) e
+kept_none : (g : ℕ → OrderRow → OrderRow) → ((n : ℕ) (w : OrderRow) → (g n w).rest ≡ w.rest - n) → (n : ℕ) (w : OrderRow) → available w ≤ n → available (if_whole (g n) w) ≡ 0
+kept_none g takes n w h = grind (arith, takes n w)
 
 pub none_kept_ahead : NoneKeptAhead
 none_kept_ahead g takes ws k i j h l p =
@@ -76,4 +68,4 @@ none_kept_ahead g takes ws k i j h l p =
     let at = handed_at g k ws i (omega arith) in
     let next = start_after (map available ws) i j h (rw length-map l) in
     let mine = get_or-map available ws i empty_row 0 (omega arith) in
-    rw at (kept_none g takes n w (is_whole w) refl (omega arith))
+    rw at (kept_none g takes n w (omega arith))

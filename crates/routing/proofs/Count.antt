@@ -1,11 +1,12 @@
 -- How many ties there are, and so tickets.
-use Rattle.std.proofs.Common.{◌≡◌, ℕ, zero, suc, ◌+◌, ◌-◌, ◌≤◌, min, List, [], ◌∷◌, length, refl, ap, arith, length-append}
+use Rattle.std.proofs.Common.{◌≡◌, ℕ, zero, suc, ◌+◌, ◌-◌, ◌≤◌, min, List, [], ◌∷◌, length, ap, arith, length-append}
 use Rattle.std.proofs.lemmas.List.{length-map}
 use Rattle.market.specs.declared.quote.Quote.{Quote}
 use Rattle.orders.specs.declared.row.OrderRow.{OrderRow}
 use Rattle.routing.specs.Shares.{Tie, cell, put, line, lines, ties}
 use Rattle.routing.specs.Tickets.{rests, sizes, ticket_of, tickets}
 use Rattle.routing.specs.Laws.{TiesFew}
+use Rattle.routing.proofs.Walk.{line_late, lines_none}
 
 length_put : (i j c : ℕ) (ts : List Tie) → length (put i j c ts) ≡ min 1 c + length ts
 length_put i j zero ts = omega arith
@@ -19,13 +20,6 @@ done x b (s ∷ ss) = (1 - ((b + s) - x)) + done x (b + s) ss
 done_mono : (x y b : ℕ) (ss : List ℕ) → x ≤ y → done x b ss ≤ done y b ss
 done_mono x y b [] h = omega arith
 done_mono x y b (s ∷ ss) h = omega (arith, done_mono x y (b + s) ss h)
-
--- no ties past the order's end
-line_late : (n i a r j b : ℕ) (ss : List ℕ) → a + r ≤ b → length (line n i a r j b ss) ≡ 0
-line_late n i a r j b [] h = refl
-line_late n i a r j b (s ∷ ss) h =
-    let z : cell n a r b s ≡ 0 = omega arith in
-    omega (arith, length_put i j (cell n a r b s) (line n i a r (j + 1) (b + s) ss), line_late n i a r (j + 1) (b + s) ss (omega arith))
 
 -- an order's ties are with quotes that end past its start
 line_most : (n i a r j b : ℕ) (ss : List ℕ) → length (line n i a r j b ss) + done a b ss ≤ length ss
@@ -41,7 +35,7 @@ line_next n i a r j b (s ∷ ss) =
       arith,
       length_put i j (cell n a r b s) (line n i a r (j + 1) (b + s) ss),
       line_next n i a r (j + 1) (b + s) ss,
-      line_late n i a r (j + 1) (b + s) ss,
+      (λ (h : a + r ≤ b + s). ap length (line_late n i a r (j + 1) (b + s) ss h)),
       done_mono a (a + r) (b + s) ss,
     )
 
@@ -61,21 +55,17 @@ pub ties_few : TiesFew
 ties_few n [] ss h k = omega arith
 ties_few n (r ∷ rs) ss h k = omega (arith, lines_most n 0 0 r rs 0 0 ss)
 
-unquoted_lines : (n i a : ℕ) (rs : List ℕ) (j b : ℕ) → lines n i a rs j b [] ≡ []
-unquoted_lines n i a [] j b = refl
-unquoted_lines n i a (r ∷ rs) j b = unquoted_lines n (i + 1) (a + r) rs j b
-
--- no more ties than orders and quotes
-ties_most : (n : ℕ) (rs ss : List ℕ) → length (ties n rs ss) ≤ length rs + length ss
-ties_most n [] ss = omega arith
-ties_most n (r ∷ rs) [] = omega (arith, ap length (unquoted_lines n 0 0 (r ∷ rs) 0 0))
-ties_most n (r ∷ rs) (s ∷ ss) = omega (arith, ties_few n (r ∷ rs) (s ∷ ss) (omega arith) (omega arith))
+-- where one order or quote may be left over, there are places for all
+pub ties_within : (n : ℕ) (rs ss : List ℕ) (l : ℕ) → length rs + length ss ≤ l + 1 → length (ties n rs ss) ≤ l
+ties_within n [] ss l h = omega arith
+ties_within n (r ∷ rs) [] l h = omega (arith, ap length (lines_none n 0 0 (r ∷ rs) 0 0))
+ties_within n (r ∷ rs) (s ∷ ss) l h = omega (arith, ties_few n (r ∷ rs) (s ∷ ss) (omega arith) (omega arith))
 
 pub tickets_most : (n : ℕ) (rows : List OrderRow) (quotes : List Quote) → length (tickets n rows quotes) ≤ length rows + length quotes
 tickets_most n rows quotes = omega (
   arith,
   length-map (ties n (rests rows) (sizes quotes)) (ticket_of rows quotes),
-  ties_most n (rests rows) (sizes quotes),
+  ties_within n (rests rows) (sizes quotes) (length rows + length quotes),
   length-map rows (λ w. w.rest),
   length-map quotes (λ x. x.shares),
 )

@@ -1,109 +1,159 @@
--- The walk with two cursors over rows and quotes: what is written and what is still to come are the tickets.
-use Rattle.std.proofs.Common.{◌≡◌, ℕ, ◌+◌, ◌-◌, ◌<◌, ◌≤◌, min, cond, ◌&&◌, ltb, List, map, length, get_or, set, sym, ap, ◌∙◌, subst, inl, inr, arith}
-use Rattle.std.proofs.lemmas.List.{length-map, get_or-map, take_all}
-use Rattle.std.proofs.lemmas.Bool.{cases_lt}
+-- The walk over rows and quotes: what is written and what is still to come are the tickets.
+use Rattle.std.proofs.Common.{◌≡◌, ℕ, ◌+◌, ◌-◌, ◌<◌, ◌≤◌, min, cond, ◌&&◌, ltb, List, [], ◌∷◌, map, length, get_or, take, drop, set, sym, refl, ap, ◌∙◌, false, arith, length-drop}
+use Rattle.std.proofs.lemmas.List.{length-map, get_or-map, take_all, drop_more}
 use Rattle.market.specs.declared.quote.Quote.{Quote}
 use Rattle.orders.specs.declared.row.OrderRow.{OrderRow}
 use Rattle.orders.specs.Rows.{empty_row}
 use Rattle.routing.specs.declared.ticket.Ticket.{Ticket}
 use Rattle.market.specs.Markets.{no_quote}
 use Rattle.routing.specs.Tickets.{rests, sizes, ticket_of, tickets, Ticketed, TicketedIn}
-use Rattle.routing.specs.Shares.{ties}
-use Rattle.routing.proofs.Count.{ties_few}
-use Rattle.routing.proofs.Write.{Written, written_is, put_done}
-use Rattle.routing.proofs.Steps.{onward, onward_start, onward_no_orders, onward_no_quotes}
-use Rattle.routing.proofs.Turn.{turn_first, turn_no_orders, turn_no_quotes, turn_quote, turn_order}
+use Rattle.routing.specs.Shares.{Tie, put, ties}
+use Rattle.routing.proofs.Count.{ties_within}
+use Rattle.routing.proofs.Write.{Written, written_none, written_all, put_done}
+use Rattle.routing.proofs.Steps.{onward, onward_start, onward_no_orders, onward_no_quotes, onward_quote, onward_order}
+
+-- what is first in a list from a place on, and what is past it
+module _ {X : Type 0} (xs : List X) (i : ℕ) (d : X) (ys : List X) (e : ys ≡ drop i xs) (some : 1 ≤ length ys) where
+  place_in : i < length xs
+  place_in = omega (arith, ap length e, length-drop i xs)
+
+  place_more : ys ≡ get_or xs i d ∷ drop (i + 1) xs
+  place_more = e ∙ drop_more xs i d place_in
+
+  place_is : get_or xs i d ≡ get_or ys 0 d
+  place_is = sym (rw place_more)
+
+  place_later : take (length ys - 1) (drop 1 ys) ≡ drop (i + 1) xs
+  place_later = take_all (length ys - 1) (drop 1 ys) (omega (arith, length-drop 1 ys)) ∙ ap (drop 1) place_more
+
+-- `waiting` are the rows from the i-th on, of the first of which `filled` shares are done; `standing` are the quotes from the
+-- j-th on, of the first of which `taken` are done; of the shares routed `left` are still to write
+pub record Walked (rows : List OrderRow) (quotes : List Quote) (routed : ℕ) (from : List Ticket) (count : ℕ) (out : List Ticket) (left : ℕ)
+    (waiting : List OrderRow) (filled : ℕ) (standing : List Quote) (taken : ℕ) : Type 0 where
+  pub i : ℕ
+  pub j : ℕ
+  pub orders_are : waiting ≡ drop i rows
+  pub quotes_are : standing ≡ drop j quotes
+  pub filled_within : filled ≤ (get_or waiting 0 empty_row).rest
+  pub taken_within : taken ≤ (get_or standing 0 no_quote).shares
+  pub here : Written (tickets routed rows quotes) from count out (map (ticket_of rows quotes) (onward left (rests rows) i filled (sizes quotes) j taken))
 
 module _ (rows : List OrderRow) (quotes : List Quote) (routed : ℕ) (from : List Ticket) where
-  -- the cursors stand at order i, of which r shares are left, and at quote j, of which s are left
-  abbrev pub At : ℕ → List Ticket → ℕ → ℕ → ℕ → ℕ → ℕ → Type 0
-  At count out left i r j s =
-      Written (tickets routed rows quotes) from count out
-      (map (ticket_of rows quotes) (onward left (rests rows) i ((get_or rows i empty_row).rest - r) (sizes quotes) j ((get_or quotes j no_quote).shares - s)))
-
-  moved : (count : ℕ) (out : List Ticket) (left i a a' j b b' : ℕ) → a ≡ a' → b ≡ b'
-      → Written (tickets routed rows quotes) from count out (map (ticket_of rows quotes) (onward left (rests rows) i a (sizes quotes) j b))
-      → Written (tickets routed rows quotes) from count out (map (ticket_of rows quotes) (onward left (rests rows) i a' (sizes quotes) j b'))
-  moved count out left i a a' j b b' e f w =
-      written_is _ _ _ _ _ _ w (ap (λ x. map (ticket_of rows quotes) (onward left (rests rows) i x (sizes quotes) j b)) e ∙ ap (λ y. map (ticket_of rows quotes) (onward left (rests rows) i a' (sizes quotes) j y)) f)
-
-  pub at_start : (order : OrderRow) (quote : Quote) → order ≡ get_or rows 0 empty_row → quote ≡ get_or quotes 0 no_quote → At 0 from routed 0 order.rest 0 quote.shares
-  at_start order quote e f =
-      let x = ap (λ w. w.rest) e in
-      let y = ap (λ q. q.shares) f in
-      moved 0 from routed 0 0 ((get_or rows 0 empty_row).rest - order.rest) 0 0 ((get_or quotes 0 no_quote).shares - quote.shares) (omega arith) (omega arith)
-      (turn_first (ticket_of rows quotes) routed (rests rows) (sizes quotes) from)
+  pub at_start : Walked rows quotes routed from 0 from routed rows 0 quotes 0
+  at_start = record {
+    i = 0;
+    j = 0;
+    orders_are = refl;
+    quotes_are = refl;
+    filled_within = omega arith;
+    taken_within = omega arith;
+    here = rw (onward_start routed (rests rows) (sizes quotes)) (written_none (tickets routed rows quotes) from);
+  }
 
   -- the ticket of a turn was put, if there was a place
-  module _ (count : ℕ) (out : List Ticket) (left i r j s : ℕ) (here : At count out left i r j s)
-      (in-orders : i < length rows) (in-quotes : j < length quotes) (r-most : r ≤ (get_or rows i empty_row).rest) (s-most : s ≤ (get_or quotes j no_quote).shares)
+  module _ (count : ℕ) (out : List Ticket) (left : ℕ) (waiting : List OrderRow) (filled : ℕ) (standing : List Quote) (taken : ℕ)
+      (g : Walked rows quotes routed from count out left waiting filled standing taken) (some : 1 ≤ length waiting) (some_quotes : 1 ≤ length standing)
       (t : Ticket) (count' : ℕ) (out' : List Ticket)
       (count_is : count' ≡ cond (ltb 0 t.shares && ltb count (length out)) (count + 1) count)
-      (out-is : out' ≡ cond (ltb 0 t.shares && ltb count (length out)) (set out count t) out) where
-    abbrev tie : ℕ → Ticket
-    tie c = ticket_of rows quotes (record { order = i; quote = j; shares = c })
+      (out_is : out' ≡ cond (ltb 0 t.shares && ltb count (length out)) (set out count t) out)
+      (r s c : ℕ) (r_is : r ≡ (get_or waiting 0 empty_row).rest - filled) (s_is : s ≡ (get_or standing 0 no_quote).shares - taken)
+      (c_is : c ≡ min left (min r s))
+      (t_is : t ≡ record {
+        order = (get_or waiting 0 empty_row).number;
+        venue = (get_or standing 0 no_quote).venue;
+        price = (get_or standing 0 no_quote).price;
+        shares = c;
+        reported = false;
+      }) where
+    order_there : get_or rows g.i empty_row ≡ get_or waiting 0 empty_row
+    order_there = place_is rows g.i empty_row waiting g.orders_are some
 
-    rs_long : length (rests rows) ≡ length rows
-    rs_long = length-map rows (λ w. w.rest)
+    quote_there : get_or quotes g.j no_quote ≡ get_or standing 0 no_quote
+    quote_there = place_is quotes g.j no_quote standing g.quotes_are some_quotes
 
-    ss_long : length (sizes quotes) ≡ length quotes
-    ss_long = length-map quotes (λ x. x.shares)
+    order_in : g.i < length rows
+    order_in = place_in rows g.i empty_row waiting g.orders_are some
 
-    r_there : get_or (rests rows) i 0 ≡ (get_or rows i empty_row).rest
-    r_there = get_or-map (λ w. w.rest) rows i empty_row 0 in-orders
+    quote_in : g.j < length quotes
+    quote_in = place_in quotes g.j no_quote standing g.quotes_are some_quotes
 
-    s_there : get_or (sizes quotes) j 0 ≡ (get_or quotes j no_quote).shares
-    s_there = get_or-map (λ x. x.shares) quotes j no_quote 0 in-quotes
+    in_orders : g.i < length (rests rows)
+    in_orders = omega (arith, length-map rows (λ w. w.rest), order_in)
 
-    pub order_ends : r < s → (r' left' : ℕ) → t ≡ tie (min left r) → left' ≡ left - min left r → r' ≡ (get_or rows (i + 1) empty_row).rest → At count' out' left' (i + 1) r' j (s - r)
-    order_ends lt r' left' t-is left_is next =
-        let w = turn_order (ticket_of rows quotes) (tickets routed rows quotes) from count out left (rests rows) i ((get_or rows i empty_row).rest - r) (sizes quotes) j ((get_or quotes j no_quote).shares - s) here
-        r s (min left r) left' (omega (arith, rs_long)) (omega (arith, ss_long)) (omega (arith, r_there)) (omega (arith, s_there)) (omega arith) (omega arith) lt in
-        let c = subst (λ x. count' ≡ cond (ltb 0 x.shares && ltb count (length out)) (count + 1) count) t-is count_is in
-        let o = subst (λ x. out' ≡ cond (ltb 0 x.shares && ltb count (length out)) (set out count x) out) t-is out-is in
-        moved count' out' left' (i + 1) 0 ((get_or rows (i + 1) empty_row).rest - r') j (((get_or quotes j no_quote).shares - s) + r) ((get_or quotes j no_quote).shares - (s - r)) (omega arith) (omega arith)
-        (put_done (ticket_of rows quotes) (tickets routed rows quotes) from count out i j (min left r) _ count' out' c o w)
+    in_quotes : g.j < length (sizes quotes)
+    in_quotes = omega (arith, length-map quotes (λ x. x.shares), quote_in)
 
-    pub quote_ends : s ≤ r → (s' left' : ℕ) → t ≡ tie (min left s) → left' ≡ left - min left s → s' ≡ (get_or quotes (j + 1) no_quote).shares → At count' out' left' i (r - s) (j + 1) s'
-    quote_ends le s' left' t-is left_is next =
-        let w = turn_quote (ticket_of rows quotes) (tickets routed rows quotes) from count out left (rests rows) i ((get_or rows i empty_row).rest - r) (sizes quotes) j ((get_or quotes j no_quote).shares - s) here
-        r s (min left s) left' (omega (arith, rs_long)) (omega (arith, ss_long)) (omega (arith, r_there)) (omega (arith, s_there)) (omega arith) (omega arith) le in
-        let c = subst (λ x. count' ≡ cond (ltb 0 x.shares && ltb count (length out)) (count + 1) count) t-is count_is in
-        let o = subst (λ x. out' ≡ cond (ltb 0 x.shares && ltb count (length out)) (set out count x) out) t-is out-is in
-        moved count' out' left' i (((get_or rows i empty_row).rest - r) + s) ((get_or rows i empty_row).rest - (r - s)) (j + 1) 0 ((get_or quotes (j + 1) no_quote).shares - s') (omega arith) (omega arith)
-        (put_done (ticket_of rows quotes) (tickets routed rows quotes) from count out i j (min left s) _ count' out' c o w)
+    r_there : r ≡ get_or (rests rows) g.i 0 - filled
+    r_there = omega (arith, r_is, get_or-map (λ w. w.rest) rows g.i empty_row 0 order_in, ap (λ w. w.rest) order_there)
 
-  -- a cursor is past its end
-  module _ (count : ℕ) (out : List Ticket) (left i r j s : ℕ) (here : At count out left i r j s) (long : length out ≡ length from) where
-    pub orders_done : length rows ≤ i → TicketedIn routed rows quotes from count out
-    orders_done h =
-        let n = length-map rows (λ w. w.rest) in
-        let w = turn_no_orders (ticket_of rows quotes) (tickets routed rows quotes) from count out left (rests rows) i _ (sizes quotes) j _ here (omega arith) in
+    s_there : s ≡ get_or (sizes quotes) g.j 0 - taken
+    s_there = omega (arith, s_is, get_or-map (λ x. x.shares) quotes g.j no_quote 0 quote_in, ap (λ x. x.shares) quote_there)
+
+    t_there : t ≡ ticket_of rows quotes (record { order = g.i; quote = g.j; shares = c })
+    t_there = rw (order_there, quote_there) t_is
+
+    put_count : count' ≡ cond (ltb 0 c && ltb count (length out)) (count + 1) count
+    put_count = rw t_is at count_is
+
+    put_out : out' ≡ cond (ltb 0 c && ltb count (length out)) (set out count (ticket_of rows quotes (record { order = g.i; quote = g.j; shares = c }))) out
+    put_out = rw (t_there) at out_is
+
+    -- the walk goes on with what `rest` says
+    goes_on : (rest : List Tie) → onward left (rests rows) g.i filled (sizes quotes) g.j taken ≡ put g.i g.j (min (min r s) left) rest
+        → Written (tickets routed rows quotes) from count' out' (map (ticket_of rows quotes) rest)
+    goes_on rest e =
+        let c_there : min (min r s) left ≡ c = omega arith in
+        put_done (ticket_of rows quotes) (tickets routed rows quotes) from count out g.i g.j c rest count' out' put_count put_out (rw (e, c_there) at g.here)
+
+    pub order_ends : r < s → Walked rows quotes routed from count' out' (left - c) (take (length waiting - 1) (drop 1 waiting)) 0 standing (taken + r)
+    order_ends h =
+        let after : left - c ≡ left - r = omega arith in
+        record {
+          i = g.i + 1;
+          j = g.j;
+          orders_are = place_later rows g.i empty_row waiting g.orders_are some;
+          quotes_are = g.quotes_are;
+          filled_within = omega arith;
+          taken_within = let within = g.taken_within in omega arith;
+          here = rw after (goes_on _ (onward_order left (rests rows) g.i filled (sizes quotes) g.j taken r s in_orders in_quotes r_there s_there h));
+        }
+
+    pub quote_ends : s ≤ r → Walked rows quotes routed from count' out' (left - c) waiting (filled + s) (take (length standing - 1) (drop 1 standing)) 0
+    quote_ends h =
+        let after : left - c ≡ left - s = omega arith in
+        record {
+          i = g.i;
+          j = g.j + 1;
+          orders_are = g.orders_are;
+          quotes_are = place_later quotes g.j no_quote standing g.quotes_are some_quotes;
+          filled_within = let within = g.filled_within in omega arith;
+          taken_within = omega arith;
+          here = rw after (goes_on _ (onward_quote left (rests rows) g.i filled (sizes quotes) g.j taken r s in_orders in_quotes r_there s_there h));
+        }
+
+  -- no order is left, or no quote
+  module _ (count : ℕ) (out : List Ticket) (left : ℕ) (waiting : List OrderRow) (filled : ℕ) (standing : List Quote) (taken : ℕ)
+      (g : Walked rows quotes routed from count out left waiting filled standing taken) (long : length out ≡ length from) where
+    all_done : onward left (rests rows) g.i filled (sizes quotes) g.j taken ≡ [] → TicketedIn routed rows quotes from count out
+    all_done e =
+        let w = written_all _ _ _ _ (rw e at g.here) in
         record { count_is = omega (arith, w.0); written = w.1; kept = w.2 }
 
-    pub quotes_done : length quotes ≤ j → TicketedIn routed rows quotes from count out
-    quotes_done h =
-        let n = length-map quotes (λ x. x.shares) in
-        let w = turn_no_quotes (ticket_of rows quotes) (tickets routed rows quotes) from count out left (rests rows) i _ (sizes quotes) j _ here (omega arith) in
-        record { count_is = omega (arith, w.0); written = w.1; kept = w.2 }
+    pub orders_done : length waiting ≡ 0 → TicketedIn routed rows quotes from count out
+    orders_done h = all_done (onward_no_orders left (rests rows) g.i filled (sizes quotes) g.j taken
+        (omega (arith, length-map rows (λ w. w.rest), ap length g.orders_are, length-drop g.i rows)))
+
+    pub quotes_done : length standing ≡ 0 → TicketedIn routed rows quotes from count out
+    quotes_done h = all_done (onward_no_quotes left (rests rows) g.i filled (sizes quotes) g.j taken
+        (omega (arith, length-map quotes (λ x. x.shares), ap length g.quotes_are, length-drop g.j quotes)))
 
   -- a table of this length has places for all
-  ties_most : (n : ℕ) (rs ss : List ℕ) (l : ℕ) → length rs + length ss ≤ l + 1 → length (ties n rs ss) ≤ l
-  ties_most n rs ss l m =
-      elim (cases_lt 0 (length rs)) [
-        | inr none ↦ let e = sym (onward_start n rs ss) ∙ onward_no_orders n rs 0 0 ss 0 0 none in omega (arith, ap length e)
-        | inl a ↦ elim (cases_lt 0 (length ss)) [
-          | inr none ↦ let e = sym (onward_start n rs ss) ∙ onward_no_quotes n rs 0 0 ss 0 0 none in omega (arith, ap length e)
-          | inl b ↦ omega (arith, ties_few n rs ss (omega arith) (omega arith))
-        ]
-      ]
-
   pub ticketed_all : (count : ℕ) (out : List Ticket) → TicketedIn routed rows quotes from count out → length rows + length quotes ≤ length from + 1
       → Ticketed routed rows quotes from count out
   ticketed_all count out t room =
       let a = length-map rows (λ w. w.rest) in
       let b = length-map quotes (λ x. x.shares) in
       let m = length-map (ties routed (rests rows) (sizes quotes)) (ticket_of rows quotes) in
-      let most : length (tickets routed rows quotes) ≤ length from = omega (arith, m, ties_most routed (rests rows) (sizes quotes) (length from) (omega (arith, a, b))) in
+      let most : length (tickets routed rows quotes) ≤ length from = omega (arith, m, ties_within routed (rests rows) (sizes quotes) (length from) (omega (arith, a, b))) in
       let e : count ≡ length (tickets routed rows quotes) = omega (arith, t.count_is) in
       record { count_is = e; written = t.written ∙ take_all count (tickets routed rows quotes) (omega arith); kept = t.kept }

@@ -3,7 +3,6 @@ pub mod Count
 pub mod Walk
 pub mod Write
 pub mod Steps
-pub mod Turn
 pub mod Tied
 pub mod Allots
 pub mod Owing

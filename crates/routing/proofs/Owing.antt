@@ -1,15 +1,15 @@
 -- Who owes to outside quotes, and how much.
-use Rattle.std.proofs.Common.{◌≡◌, ℕ, ◌+◌, ◌<◌, ◌≤◌, min, max, true, false, cond, ltb, leb, ◌⊎◌, List, [], ◌∷◌, sum_by, refl, inl, inr, arith}
-use Rattle.std.proofs.lemmas.List.Sums.{sum_by-cons}
-use Rattle.std.proofs.lemmas.Bool.{cases_lt, cond-false, le-leb, lt-leb, both_ways}
+use Rattle.std.proofs.Common.{◌≡◌, ℕ, ◌+◌, ◌<◌, ◌≤◌, min, max, true, false, cond, ltb, leb, ◌⊎◌, List, [], ◌∷◌, sum_by, sym, inl, inr, arith}
+use Rattle.std.proofs.lemmas.List.Sums.{sum_by-cons, sum_by-le-sum_by}
+use Rattle.std.proofs.lemmas.Bool.{cases_lt, le-leb, both_ways}
 use Rattle.std.proofs.lemmas.Bool.Decides.{nat_tests}
 use Rattle.market.specs.declared.quote.Quote.{Quote}
 use Rattle.market.specs.declared.side.Side.{Side}
 use Rattle.market.specs.declared.side.Side.TheVariants.{Buy, Sell}
 use Rattle.market.specs.Best.{best_of, best_price}
 use Rattle.pricing.specs.declared.level.Level.{Level}
-use Rattle.pricing.specs.Books.{Book, levels, at_or_above, at_or_below, above, below}
-use Rattle.pricing.proofs.Levels.{sum_by_mono}
+use Rattle.pricing.specs.Books.{Book, quote_level, levels, at_or_above, at_or_below, above, below}
+use Rattle.pricing.proofs.Levels.{sum_by_map}
 use Rattle.pricing.specs.Closing.{touching, best_on}
 use Rattle.routing.specs.Owed.{better_part, reach_part, better, reach, owed_of}
 use Rattle.routing.specs.Laws.{OneSideOwes, OwedWithin}
@@ -32,11 +32,7 @@ best_start p (x ∷ xs) = omega (arith, best_start (max p x.price) xs)
 best_high : (p q : ℕ) (xs : List Quote) → 0 < at_or_above q (levels xs) → q ≤ best_of Buy p xs
 unfolding at_or_above
 best_high p q [] h = absurd (omega arith)
-best_high p q (x ∷ xs) h =
-    elim (cases_lt x.price q) [
-      | inl lt ↦ best_high (max p x.price) q xs (omega (arith, above_cons q x xs, cond-false (leb q x.price) x.shares 0 (lt-leb q x.price lt)))
-      | inr ge ↦ omega (arith, best_start (max p x.price) xs)
-    ]
+best_high p q (x ∷ xs) h = grind (arith, nat_tests, above_cons q x xs, best_high (max p x.price) q xs, best_start (max p x.price) xs)
 
 best_start_low : (p : ℕ) (xs : List Quote) → best_of Sell p xs ≤ p
 best_start_low p [] = omega arith
@@ -45,11 +41,7 @@ best_start_low p (x ∷ xs) = omega (arith, best_start_low (min p x.price) xs)
 best_low : (p q : ℕ) (xs : List Quote) → 0 < at_or_below q (levels xs) → best_of Sell p xs ≤ q
 unfolding at_or_below
 best_low p q [] h = absurd (omega arith)
-best_low p q (x ∷ xs) h =
-    elim (cases_lt q x.price) [
-      | inl lt ↦ best_low (min p x.price) q xs (omega (arith, below_cons q x xs, cond-false (leb x.price q) x.shares 0 (lt-leb x.price q lt)))
-      | inr ge ↦ omega (arith, best_start_low (min p x.price) xs)
-    ]
+best_low p q (x ∷ xs) h = grind (arith, nat_tests, below_cons q x xs, best_low (min p x.price) q xs, best_start_low (min p x.price) xs)
 
 -- bids at p or higher and offers at p or lower lock or cross the market
 touch : (p : ℕ) (bids offers : List Quote) → 0 < at_or_above p (levels bids) → 0 < at_or_below p (levels offers) → touching (best_price Buy bids) (best_price Sell offers) ≡ true
@@ -57,14 +49,8 @@ unfolding at_or_above at_or_below
 touch p [] offers h k = absurd (omega arith)
 touch p (x ∷ xs) [] h k = absurd (omega arith)
 touch p (x ∷ xs) (y ∷ ys) h k =
-    let high : p ≤ best_of Buy x.price xs = elim (cases_lt x.price p) [
-      | inl lt ↦ best_high x.price p xs (omega (arith, above_cons p x xs, cond-false (leb p x.price) x.shares 0 (lt-leb p x.price lt)))
-      | inr ge ↦ omega (arith, best_start x.price xs)
-    ] in
-    let low : best_of Sell y.price ys ≤ p = elim (cases_lt p y.price) [
-      | inl lt ↦ best_low y.price p ys (omega (arith, below_cons p y ys, cond-false (leb y.price p) y.shares 0 (lt-leb y.price p lt)))
-      | inr ge ↦ omega (arith, best_start_low y.price ys)
-    ] in
+    let high : p ≤ best_of Buy x.price xs = grind (arith, nat_tests, above_cons p x xs, best_high x.price p xs, best_start x.price xs) in
+    let low : best_of Sell y.price ys ≤ p = grind (arith, nat_tests, below_cons p y ys, best_low y.price p ys, best_start_low y.price ys) in
     le-leb (best_of Sell y.price ys) (best_of Buy x.price xs) (omega arith)
 
 -- on a market that is apart, not both
@@ -79,41 +65,31 @@ one_quoted b p apart =
     ]
 
 -- what is better than a price is at it or better
-below_part : (p q s : ℕ) → cond (ltb q p) s 0 ≤ cond (leb q p) s 0
-below_part p q s = grind (arith, nat_tests)
-
-above_part : (p q s : ℕ) → cond (ltb p q) s 0 ≤ cond (leb p q) s 0
-above_part p q s = grind (arith, nat_tests)
-
 pub below_most : (p : ℕ) (ls : List Level) → below p ls ≤ at_or_below p ls
 unfolding below at_or_below
-below_most p ls = sum_by_mono _ _ (λ l. below_part p l.price l.shares) ls
+below_most p ls = sum_by-le-sum_by _ _ ls (λ l. grind (arith, nat_tests))
 
 pub above_most : (p : ℕ) (ls : List Level) → above p ls ≤ at_or_above p ls
 unfolding above at_or_above
-above_most p ls = sum_by_mono _ _ (λ l. above_part p l.price l.shares) ls
+above_most p ls = sum_by-le-sum_by _ _ ls (λ l. grind (arith, nat_tests))
 
 -- sums over quotes, with and without their venues
-module _ (p : ℕ) where
-  pub better_below : (xs : List Quote) → better Buy p xs ≡ below p (levels xs)
+module _ (p : ℕ) (xs : List Quote) where
+  pub better_below : better Buy p xs ≡ below p (levels xs)
   unfolding below
-  better_below [] = refl
-  better_below (x ∷ xs) = omega (arith, sum_by-cons (better_part Buy p) x xs, sum_by-cons (λ l. cond (ltb l.price p) l.shares 0) (record { price = x.price; shares = x.shares }) (levels xs), better_below xs)
+  better_below = sym (sum_by_map (λ l. cond (ltb l.price p) l.shares 0) quote_level xs)
 
-  pub better_above : (xs : List Quote) → better Sell p xs ≡ above p (levels xs)
+  pub better_above : better Sell p xs ≡ above p (levels xs)
   unfolding above
-  better_above [] = refl
-  better_above (x ∷ xs) = omega (arith, sum_by-cons (better_part Sell p) x xs, sum_by-cons (λ l. cond (ltb p l.price) l.shares 0) (record { price = x.price; shares = x.shares }) (levels xs), better_above xs)
+  better_above = sym (sum_by_map (λ l. cond (ltb p l.price) l.shares 0) quote_level xs)
 
-  pub reach_below : (xs : List Quote) → reach Buy p xs ≡ at_or_below p (levels xs)
+  pub reach_below : reach Buy p xs ≡ at_or_below p (levels xs)
   unfolding at_or_below
-  reach_below [] = refl
-  reach_below (x ∷ xs) = omega (arith, sum_by-cons (reach_part Buy p) x xs, sum_by-cons (λ l. cond (leb l.price p) l.shares 0) (record { price = x.price; shares = x.shares }) (levels xs), reach_below xs)
+  reach_below = sym (sum_by_map (λ l. cond (leb l.price p) l.shares 0) quote_level xs)
 
-  pub reach_above : (xs : List Quote) → reach Sell p xs ≡ at_or_above p (levels xs)
+  pub reach_above : reach Sell p xs ≡ at_or_above p (levels xs)
   unfolding at_or_above
-  reach_above [] = refl
-  reach_above (x ∷ xs) = omega (arith, sum_by-cons (reach_part Sell p) x xs, sum_by-cons (λ l. cond (leb p l.price) l.shares 0) (record { price = x.price; shares = x.shares }) (levels xs), reach_above xs)
+  reach_above = sym (sum_by_map (λ l. cond (leb p l.price) l.shares 0) quote_level xs)
 
 pub one_side_owes : OneSideOwes
 one_side_owes b p apart h =
@@ -146,8 +122,8 @@ owed_within Sell b p apart clears =
 pub owed_quoted : (side : Side) (p own other : ℕ) (xs : List Quote) → owed_of (better side p xs) (reach side p xs) own other ≤ sum_by (λ x. x.shares) xs
 owed_quoted side p own other xs = omega (
   arith,
-  sum_by_mono (better_part side p) (λ x. x.shares) (part_most side) xs,
-  sum_by_mono (reach_part side p) (λ x. x.shares) (reach_most side) xs,
+  sum_by-le-sum_by (better_part side p) (λ x. x.shares) xs (part_most side),
+  sum_by-le-sum_by (reach_part side p) (λ x. x.shares) xs (reach_most side),
 )
   where
     part_most : (s : Side) (x : Quote) → better_part s p x ≤ x.shares

@@ -1,8 +1,8 @@
 -- What the ties of one order, and of one quote, come to.
-use Rattle.std.proofs.Common.{◌≡◌, ℕ, zero, suc, ◌+◌, ◌<◌, List, [], ◌∷◌, ◌++◌, length, get_or, refl, ap, ◌∙◌, arith}
+use Rattle.std.proofs.Common.{◌≡◌, ℕ, zero, suc, ◌+◌, ◌<◌, cond, eqb, List, [], ◌∷◌, ◌++◌, length, get_or, refl, arith}
 use Rattle.std.specs.List.{AllByRecursion}
 use Rattle.std.proofs.ByRecursion.{All-append, All-weaker}
-use Rattle.std.proofs.lemmas.Bool.{eq-eqb, ne_eqb}
+use Rattle.std.proofs.lemmas.Bool.Decides.{nat_tests}
 use Rattle.routing.specs.Shares.{Tie, start, cell, across, down, put, line, lines, ties, of_order, of_quote}
 use Rattle.routing.specs.Laws.{OrderTied, QuoteTied}
 use Rattle.routing.proofs.Sums.{across_is, down_is}
@@ -15,39 +15,27 @@ of_quote_append : (k : ℕ) (xs ys : List Tie) → of_quote k (xs ++ ys) ≡ of_
 of_quote_append k [] ys = omega arith
 of_quote_append k (x ∷ xs) ys = omega (arith, of_quote_append k xs ys)
 
-order_put : (k i j c : ℕ) (ts : List Tie) → i ≡ k → of_order k (put i j c ts) ≡ c + of_order k ts
-order_put k i j zero ts e = omega arith
-order_put k i j (suc c) ts e = rw (eq-eqb i k e)
+order_put : (k i j c : ℕ) (ts : List Tie) → of_order k (put i j c ts) ≡ cond (eqb i k) c 0 + of_order k ts
+order_put k i j zero ts = grind (arith, nat_tests)
+order_put k i j (suc c) ts = refl
 
-order_pass : (k i j c : ℕ) (ts : List Tie) → (i ≡ k → ⊥) → of_order k (put i j c ts) ≡ of_order k ts
-order_pass k i j zero ts e = refl
-order_pass k i j (suc c) ts e = rw (ne_eqb i k e) (omega arith)
+quote_put : (k i j c : ℕ) (ts : List Tie) → of_quote k (put i j c ts) ≡ cond (eqb j k) c 0 + of_quote k ts
+quote_put k i j zero ts = grind (arith, nat_tests)
+quote_put k i j (suc c) ts = refl
 
-quote_put : (k i j c : ℕ) (ts : List Tie) → j ≡ k → of_quote k (put i j c ts) ≡ c + of_quote k ts
-quote_put k i j zero ts e = omega arith
-quote_put k i j (suc c) ts e = rw (eq-eqb j k e)
-
-quote_pass : (k i j c : ℕ) (ts : List Tie) → (j ≡ k → ⊥) → of_quote k (put i j c ts) ≡ of_quote k ts
-quote_pass k i j zero ts e = refl
-quote_pass k i j (suc c) ts e = rw (ne_eqb j k e) (omega arith)
-
-order_line : (n i a r j b : ℕ) (ss : List ℕ) → of_order i (line n i a r j b ss) ≡ across n a r b ss
-order_line n i a r j b [] = refl
-order_line n i a r j b (s ∷ ss) =
-    order_put i i j (cell n a r b s) (line n i a r (j + 1) (b + s) ss) refl ∙ ap (λ x. cell n a r b s + x) (order_line n i a r (j + 1) (b + s) ss)
-
-order_line_other : (k n i a r j b : ℕ) (ss : List ℕ) → (i ≡ k → ⊥) → of_order k (line n i a r j b ss) ≡ 0
-order_line_other k n i a r j b [] h = refl
-order_line_other k n i a r j b (s ∷ ss) h =
-    order_pass k i j (cell n a r b s) (line n i a r (j + 1) (b + s) ss) h ∙ order_line_other k n i a r (j + 1) (b + s) ss h
+order_line : (k n i a r j b : ℕ) (ss : List ℕ) → of_order k (line n i a r j b ss) ≡ cond (eqb i k) (across n a r b ss) 0
+order_line k n i a r j b [] = grind (arith, nat_tests)
+order_line k n i a r j b (s ∷ ss) =
+    grind (arith, nat_tests, order_put k i j (cell n a r b s) (line n i a r (j + 1) (b + s) ss), order_line k n i a r (j + 1) (b + s) ss)
 
 order_lines_past : (k n i a : ℕ) (rs : List ℕ) (j b : ℕ) (ss : List ℕ) → k < i → of_order k (lines n i a rs j b ss) ≡ 0
 order_lines_past k n i a [] j b ss h = refl
 order_lines_past k n i a (r ∷ rs) j b ss h =
-    omega (
+    grind (
       arith,
+      nat_tests,
       of_order_append k (line n i a r j b ss) (lines n (i + 1) (a + r) rs j b ss),
-      order_line_other k n i a r j b ss (omega arith),
+      order_line k n i a r j b ss,
       order_lines_past k n (i + 1) (a + r) rs j b ss (omega arith),
     )
 
@@ -55,23 +43,18 @@ order_lines : (d k n i a : ℕ) (rs : List ℕ) (j b : ℕ) (ss : List ℕ) → 
     → of_order k (lines n i a rs j b ss) ≡ across n (a + start rs d) (get_or rs d 0) b ss
 order_lines d k n i a [] j b ss e h = absurd (omega arith)
 order_lines zero k n i a (r ∷ rs) j b ss e h =
-    let p : k ≡ i = omega arith in
     let q : a + 0 ≡ a = omega arith in
-    rw (q, p) (omega (
+    rw q (grind (
       arith,
-      of_order_append i (line n i a r j b ss) (lines n (i + 1) (a + r) rs j b ss),
-      order_line n i a r j b ss,
-      order_lines_past i n (i + 1) (a + r) rs j b ss (omega arith),
+      nat_tests,
+      of_order_append k (line n i a r j b ss) (lines n (i + 1) (a + r) rs j b ss),
+      order_line k n i a r j b ss,
+      order_lines_past k n (i + 1) (a + r) rs j b ss (omega arith),
     ))
 order_lines (suc d) k n i a (r ∷ rs) j b ss e h =
     let q : (a + r) + start rs d ≡ a + (r + start rs d) = omega arith in
     let ih = rw q at (order_lines d k n (i + 1) (a + r) rs j b ss (omega arith) (omega arith)) in
-    omega (
-      arith,
-      of_order_append k (line n i a r j b ss) (lines n (i + 1) (a + r) rs j b ss),
-      order_line_other k n i a r j b ss (omega arith),
-      ih,
-    )
+    grind (arith, nat_tests, of_order_append k (line n i a r j b ss) (lines n (i + 1) (a + r) rs j b ss), order_line k n i a r j b ss, ih)
 
 -- every tie is one of the orders'
 put_all : (P : Tie → Type 0) (i j c : ℕ) (ts : List Tie) → ((s : ℕ) → P (record { order = i; quote = j; shares = s })) → AllByRecursion P ts → AllByRecursion P (put i j c ts)
@@ -102,20 +85,17 @@ order_tied n rs ss i h k =
 quote_line_past : (k n i a r j b : ℕ) (ss : List ℕ) → k < j → of_quote k (line n i a r j b ss) ≡ 0
 quote_line_past k n i a r j b [] h = refl
 quote_line_past k n i a r j b (s ∷ ss) h =
-    quote_pass k i j (cell n a r b s) (line n i a r (j + 1) (b + s) ss) (omega arith) ∙ quote_line_past k n i a r (j + 1) (b + s) ss (omega arith)
+    grind (arith, nat_tests, quote_put k i j (cell n a r b s) (line n i a r (j + 1) (b + s) ss), quote_line_past k n i a r (j + 1) (b + s) ss (omega arith))
 
 quote_line : (d k n i a r j b : ℕ) (ss : List ℕ) → k ≡ j + d → d < length ss
     → of_quote k (line n i a r j b ss) ≡ cell n a r (b + start ss d) (get_or ss d 0)
 quote_line d k n i a r j b [] e h = absurd (omega arith)
 quote_line zero k n i a r j b (s ∷ ss) e h =
-    let q : b + 0 ≡ b = omega arith in
-    let u = quote_put k i j (cell n a r b s) (line n i a r (j + 1) (b + s) ss) (omega arith) in
-    let v = quote_line_past k n i a r (j + 1) (b + s) ss (omega arith) in
-    rw (q, u, v) (omega arith)
+    grind (arith, nat_tests, quote_put k i j (cell n a r b s) (line n i a r (j + 1) (b + s) ss), quote_line_past k n i a r (j + 1) (b + s) ss (omega arith))
 quote_line (suc d) k n i a r j b (s ∷ ss) e h =
     let q : (b + s) + start ss d ≡ b + (s + start ss d) = omega arith in
-    quote_pass k i j (cell n a r b s) (line n i a r (j + 1) (b + s) ss) (omega arith)
-    ∙ (rw q at (quote_line d k n i a r (j + 1) (b + s) ss (omega arith) (omega arith)))
+    let ih = rw q at (quote_line d k n i a r (j + 1) (b + s) ss (omega arith) (omega arith)) in
+    grind (arith, nat_tests, quote_put k i j (cell n a r b s) (line n i a r (j + 1) (b + s) ss), ih)
 
 quote_lines : (d k n i a : ℕ) (rs : List ℕ) (j b : ℕ) (ss : List ℕ) → k ≡ j + d → d < length ss
     → of_quote k (lines n i a rs j b ss) ≡ down n a rs (b + start ss d) (get_or ss d 0)

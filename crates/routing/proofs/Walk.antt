@@ -20,7 +20,7 @@ pub put_none : (i j c : ℕ) (ts : List Tie) → c ≡ 0 → put i j c ts ≡ ts
 put_none i j c ts h = rw h
 
 -- an order has no ties with quotes past its end
-line_late : (n i a r j b : ℕ) (ss : List ℕ) → a + r ≤ b → line n i a r j b ss ≡ []
+pub line_late : (n i a r j b : ℕ) (ss : List ℕ) → a + r ≤ b → line n i a r j b ss ≡ []
 line_late n i a r j b [] h = refl
 line_late n i a r j b (s ∷ ss) h =
     put_none i j (cell n a r b s) (line n i a r (j + 1) (b + s) ss) (omega arith) ∙ line_late n i a r (j + 1) (b + s) ss (omega arith)
@@ -51,7 +51,7 @@ lines_trim n i a (r ∷ rs) j b s c q ss e h k =
     let y = lines_trim n (i + 1) (a + r) rs j b s c q ss e (omega arith) (omega arith) in
     cc
 
-lines_none : (n i a : ℕ) (rs : List ℕ) (j b : ℕ) → lines n i a rs j b [] ≡ []
+pub lines_none : (n i a : ℕ) (rs : List ℕ) (j b : ℕ) → lines n i a rs j b [] ≡ []
 lines_none n i a [] j b = refl
 lines_none n i a (r ∷ rs) j b = lines_none n (i + 1) (a + r) rs j b
 

@@ -1,6 +1,7 @@
 -- Writing a list into a slice, from its start.
 use Rattle.std.proofs.Common.{◌≡◌, ℕ, zero, suc, ◌+◌, ◌-◌, ◌<◌, ◌≤◌, min, true, false, cond, ◌&&◌, ltb, List, [], ◌∷◌, ◌++◌, map, length, take, drop, set, sym, refl, ap, ◌∙◌, inl, inr, append_assoc, append-nil, arith, length-append, length-set}
-use Rattle.std.proofs.lemmas.Bool.{cases_lt, and_from, and_left, and_right, lt-ltb, le-ltb}
+use Rattle.std.proofs.lemmas.Bool.{cases_lt}
+use Rattle.std.proofs.lemmas.Bool.Decides.{nat_tests}
 use Rattle.std.proofs.lemmas.List.{take_more_set, take_all, take-append-le, drop-set-lt, drop-drop, length-take-le}
 use Rattle.routing.specs.Shares.{Tie, put}
 use Rattle.routing.proofs.Walk.{put_none}
@@ -45,9 +46,6 @@ module _ {X : Type 0} (whole from : List X) (count : ℕ) (out : List X) where
   written_full : (rest next : List X) → Written whole from count out rest → length out ≤ count → Written whole from count out next
   written_full rest next w h = record { first = w.first; kept = w.kept; within = w.within; few = w.few; onto = λ lt. absurd (omega arith) }
 
-  pub written_is : (rest next : List X) → Written whole from count out rest → rest ≡ next → Written whole from count out next
-  written_is rest next w e = rw e at w
-
 pub written_none : {X : Type 0} (whole out : List X) → Written whole out 0 out whole
 written_none whole out = record { first = refl; kept = refl; within = omega arith; few = omega arith; onto = λ _. refl }
 
@@ -71,10 +69,10 @@ written_all whole from count out w =
 module _ {X : Type 0} (f : Tie → X) (whole from : List X) (count : ℕ) (out : List X) (i j c : ℕ) (rest : List Tie) where
   put_wrote : 0 < c → count < length out → Written whole from count out (map f (put i j c rest))
       → Written whole from (count + 1) (set out count (f (record { order = i; quote = j; shares = c }))) (map f rest)
-  put_wrote p h w = written_more whole from count out _ _ (written_is whole from count out _ _ w (ap (map f) (put_some i j c rest p))) h
+  put_wrote p h w = written_more whole from count out _ _ (rw (put_some i j c rest p) at w) h
 
   put_passed : c ≤ 0 → Written whole from count out (map f (put i j c rest)) → Written whole from count out (map f rest)
-  put_passed p w = written_is whole from count out _ _ w (ap (map f) (put_none i j c rest (omega arith)))
+  put_passed p w = rw (put_none i j c rest (omega arith)) at w
 
   -- a ticket was put where it is for some shares and there is a place
   pub put_done : (count' : ℕ) (out' : List X)
@@ -84,14 +82,8 @@ module _ {X : Type 0} (f : Tie → X) (whole from : List X) (count : ℕ) (out :
   put_done count' out' x y w =
       elim (cases_lt 0 c) [
         | inl p ↦ elim (cases_lt count (length out)) [
-          | inl h ↦
-              let t : (ltb 0 c && ltb count (length out)) ≡ true = and_from (ltb 0 c) (ltb count (length out)) (lt-ltb 0 c p) (lt-ltb count (length out) h) in
-              rw (x, y, t) (put_wrote p h w)
-          | inr z ↦
-              let t : (ltb 0 c && ltb count (length out)) ≡ false = and_right (ltb 0 c) (ltb count (length out)) (le-ltb count (length out) z) in
-              rw (x, y, t) (written_full whole from count out _ _ w z)
+          | inl h ↦ let t : (ltb 0 c && ltb count (length out)) ≡ true = grind (arith, nat_tests) in rw (x, y, t) (put_wrote p h w)
+          | inr z ↦ let t : (ltb 0 c && ltb count (length out)) ≡ false = grind (arith, nat_tests) in rw (x, y, t) (written_full whole from count out _ _ w z)
         ]
-        | inr z ↦
-            let t : (ltb 0 c && ltb count (length out)) ≡ false = and_left (ltb 0 c) (ltb count (length out)) (le-ltb 0 c z) in
-            rw (x, y, t) (put_passed z w)
+        | inr z ↦ let t : (ltb 0 c && ltb count (length out)) ≡ false = grind (arith, nat_tests) in rw (x, y, t) (put_passed z w)
       ]

@@ -3,7 +3,7 @@ ghost use Rattle.std.specs.Prelude.{◌≡◌};
 ghost use Rattle.routing.specs.Tickets.{empty_ticket};
 
 #[repr(C)]
-#[derive(Clone, Copy, Debug, PartialEq, Eq)]
+#[derive(Clone, Copy, Debug, Default, PartialEq, Eq, Hash)]
 pub struct Ticket {
     pub order: u32,
     pub venue: u32,
@@ -17,12 +17,6 @@ impl Ticket {
     pub fn empty() -> Ticket
         ensures { result ≡ empty_ticket }
     {
-        Ticket {
-            order: 0,
-            venue: 0,
-            price: 0,
-            shares: 0,
-            reported: false,
-        }
+        Ticket::default()
     }
 }

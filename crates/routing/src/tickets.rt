@@ -1,33 +1,10 @@
 // Writes the tickets of a side: orders and quotes walked in rank order, each ticket as large as both still allow.
-ghost use Rattle.std.specs.Prelude.{◌≡◌, ◌+◌, ◌≤◌, false, ◌&&◌, ltb, length, if◌then◌else◌, nat_lt, slice_index_or, slice_set};
-ghost use Rattle.market.specs.Markets.{no_quote};
+ghost use Rattle.std.specs.Prelude.{◌≡◌, ◌+◌, ◌≤◌, false, ◌&&◌, ltb, length, if◌then◌else◌, nat_lt, slice_set};
 ghost use Rattle.routing.specs.Tickets.{Ticketed, TicketedIn};
-ghost use Rattle.orders.specs.Rows.{empty_row};
 
 use crate::ticket::Ticket;
 use market::quote::Quote;
 use orders::row::OrderRow;
-
-// The order at a place, and the quote; an empty one past the end.
-fn order_at(rows: &[OrderRow], place: usize) -> OrderRow
-    ensures { result ≡ slice_index_or rows.now place empty_row }
-{
-    if place < rows.len() {
-        rows[place]
-    } else {
-        OrderRow::empty()
-    }
-}
-
-fn quote_at(quotes: &[Quote], place: usize) -> Quote
-    ensures { result ≡ slice_index_or quotes.now place no_quote }
-{
-    if place < quotes.len() {
-        quotes[place]
-    } else {
-        Quote::none()
-    }
-}
 
 // The ticket that sends shares of an order to a quote.
 fn ticket_of(order: OrderRow, quote: Quote, shares: u32) -> Ticket
@@ -43,7 +20,7 @@ fn ticket_of(order: OrderRow, quote: Quote, shares: u32) -> Ticket
 }
 
 // Writes a ticket at the first free place, unless it is for no shares or there is no place; answers where the next
-// free place is.
+// free place is. The table is lent by the caller, so what is written of it is counted beside it.
 fn put_ticket(out: &mut [Ticket], count: usize, ticket: Ticket) -> usize
     ensures count { result ≡ (if ltb 0 ticket.shares && nat_lt count (length out.old) then count + 1 else count) }
     ensures out { out.new ≡ (if ltb 0 ticket.shares && nat_lt count (length out.old) then slice_set out.old count ticket else out.old) }
@@ -63,25 +40,24 @@ pub fn write_tickets(rows: &[OrderRow], quotes: &[Quote], routed: u64, out: &mut
 {
     let mut count = 0;
     let mut left = routed;
-    let mut i = 0;
-    let mut j = 0;
-    let mut order = order_at(rows, 0);
-    let mut quote = quote_at(quotes, 0);
-    while i < rows.len() && j < quotes.len() {
-        if order.rest < quote.shares {
-            let tied = left.min(order.rest as u64);
+    let (mut waiting, mut standing) = (rows, quotes);
+    // What is written already of the first order that waits, and of the first quote that stands.
+    let (mut filled, mut taken) = (0, 0);
+    while let ([order, later @ ..], [quote, others @ ..]) = (waiting, standing) {
+        let (order, quote) = (*order, *quote);
+        let rest = order.rest - filled;
+        let shares = quote.shares - taken;
+        // A ticket in each branch: with one before them the walk takes a third longer.
+        if rest < shares {
+            let tied = left.min(u64::from(rest));
             count = put_ticket(out, count, ticket_of(order, quote, tied as u32));
             left -= tied;
-            quote.shares -= order.rest;
-            i += 1;
-            order = order_at(rows, i);
+            (waiting, filled, taken) = (later, 0, taken + rest);
         } else {
-            let tied = left.min(quote.shares as u64);
+            let tied = left.min(u64::from(shares));
             count = put_ticket(out, count, ticket_of(order, quote, tied as u32));
             left -= tied;
-            order.rest -= quote.shares;
-            j += 1;
-            quote = quote_at(quotes, j);
+            (standing, filled, taken) = (others, filled + shares, 0);
         }
     }
     count

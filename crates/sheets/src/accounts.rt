@@ -11,28 +11,19 @@ pub(crate) fn executed_here(rows: &[OrderRow]) -> u64
     requires few { length rows.now ≤ 512 }
     ensures { result ≡ sum_by (λ w. w.here) rows.now }
 {
-    let mut sum = 0;
-    for row in rows {
-        sum += row.here as u64;
-    }
-    sum
+    rows.iter().map(|row| u64::from(row.here)).sum()
 }
 
 // Whether the shares of an order as entered are the sum of its six counts.
 pub(crate) fn adds_up(row: OrderRow) -> bool
     ensures { result ≡ is_whole row }
 {
-    OrderRecord::of(row).is_some()
+    OrderRecord::try_from(row).is_ok()
 }
 
 // Whether they are for every order of a side.
 pub(crate) fn all_add_up(rows: &[OrderRow]) -> bool
     ensures { result ≡ all_by is_whole rows.now }
 {
-    for row in rows {
-        if !adds_up(*row) {
-            return false;
-        }
-    }
-    true
+    rows.iter().all(|row| adds_up(*row))
 }

@@ -1,23 +1,25 @@
 // The sheets of the record: the book, the tickets, the prices around the price, the orders at the end.
 use crate::accounts::{adds_up, all_add_up, executed_here};
-use call_words::words::{Shares, class_name};
+use call_words::words::class_name;
 use desk::depth::{Depth, step_above, step_below};
 use desk::desk::Desk;
 use orders::row::OrderRow;
 use report::numbers::{Column, Dollars, Grouped};
-use report::words::refusal_words;
 use std::io;
 
+// A count of shares at the right end of a column of 10.
+fn shares(count: u32) -> Column<10> {
+    Column(u64::from(count))
+}
+
 fn print_rows(rt: &HostRuntime, rows: &[OrderRow], side: &str) -> io::Result<()> {
-    for row in rows {
-        if row.number > 0 {
-            let number = row.number;
-            let class = class_name(row.class);
-            let dollars = Dollars(row.price);
-            let rest = Shares(row.rest);
-            let out = Shares(row.out);
-            println!(rt; "  {side:<6}{number:>5}  {class:<10}{dollars}{rest}{out}")?;
-        }
+    for row in rows.iter().filter(|row| row.number > 0) {
+        let number = row.number;
+        let class = class_name(row.class);
+        let dollars = Dollars(row.price);
+        let rest = shares(row.rest);
+        let out = shares(row.out);
+        println!(rt; "  {side:<6}{number:>5}  {class:<10}{dollars}{rest}{out}")?;
     }
     Ok(())
 }
@@ -35,16 +37,14 @@ pub fn print_tickets(rt: &HostRuntime, desk: &Desk, when: &str) -> io::Result<()
     println!(rt; "")?;
     println!(rt; "The tickets, {when}")?;
     println!(rt; "  ticket  order  venue  price        shares  reported")?;
-    for (place, ticket) in desk.tickets.iter().enumerate() {
-        if ticket.shares > 0 {
-            let number = place + 1;
-            let order = ticket.order;
-            let venue = ticket.venue;
-            let dollars = Dollars(ticket.price);
-            let shares = Shares(ticket.shares);
-            let reported = if ticket.reported { "yes" } else { "no" };
-            println!(rt; "  {number:>6}{order:>7}{venue:>7}  {dollars}{shares}  {reported}")?;
-        }
+    let tickets = (1..).zip(&desk.tickets);
+    for (number, ticket) in tickets.filter(|(_, ticket)| ticket.shares > 0) {
+        let order = ticket.order;
+        let venue = ticket.venue;
+        let dollars = Dollars(ticket.price);
+        let asked = shares(ticket.shares);
+        let reported = if ticket.reported { "yes" } else { "no" };
+        println!(rt; "  {number:>6}{order:>7}{venue:>7}  {dollars}{asked}  {reported}")?;
     }
     Ok(())
 }
@@ -56,10 +56,7 @@ pub fn print_outstanding(rt: &HostRuntime, desk: &mut Desk) -> io::Result<()> {
             "  outstanding: ticket {ticket} is the first not reported"
         ),
         Ok(None) => println!(rt; "  outstanding: no ticket"),
-        Err(refusal) => {
-            let words = refusal_words(refusal);
-            println!(rt; "  outstanding: {words}")
-        }
+        Err(refusal) => println!(rt; "  outstanding: {refusal}"),
     }
 }
 
@@ -71,9 +68,9 @@ pub fn print_depth(rt: &HostRuntime, depth: &Depth, price: u32) -> io::Result<()
     let above = step_above(price);
     for level in [step_below(below), below, price, above, step_above(above)] {
         let dollars = Dollars(level);
-        let demand = Column(depth.demand(level));
-        let supply = Column(depth.supply(level));
-        let count = Column(depth.count(level));
+        let demand = Column::<14>(depth.demand(level));
+        let supply = Column::<14>(depth.supply(level));
+        let count = Column::<14>(depth.count(level));
         let mark = if level == price { "  <" } else { "" };
         println!(rt; "  {dollars}  {demand}{supply}{count}{mark}")?;
     }
@@ -81,13 +78,11 @@ pub fn print_depth(rt: &HostRuntime, depth: &Depth, price: u32) -> io::Result<()
 }
 
 fn print_traders(rt: &HostRuntime, rows: &[OrderRow], did: &str) -> io::Result<()> {
-    for row in rows {
-        if row.here > 0 || row.away > 0 {
-            let number = row.number;
-            let here = Grouped(u64::from(row.here));
-            let away = Grouped(u64::from(row.away));
-            println!(rt; "  order {number} {did} {here} here, {away} away")?;
-        }
+    for row in rows.iter().filter(|row| row.here > 0 || row.away > 0) {
+        let number = row.number;
+        let here = Grouped(u64::from(row.here));
+        let away = Grouped(u64::from(row.away));
+        println!(rt; "  order {number} {did} {here} here, {away} away")?;
     }
     Ok(())
 }
@@ -100,26 +95,25 @@ pub fn print_trades(rt: &HostRuntime, desk: &Desk) -> io::Result<()> {
     print_traders(rt, &desk.sells, "sold")
 }
 
+// Two words for a bool, in a line, as long as a type's Display would be.
 fn verdict(holds: bool) -> &'static str {
     if holds { "holds" } else { "FAILS" }
 }
 
 fn print_counts(rt: &HostRuntime, rows: &[OrderRow], side: &str) -> io::Result<()> {
-    for row in rows {
-        if row.number > 0 {
-            let number = row.number;
-            let entered = Shares(row.shares);
-            let rest = Shares(row.rest);
-            let here = Shares(row.here);
-            let away = Shares(row.away);
-            let out = Shares(row.out);
-            let cancelled = Shares(row.cancelled);
-            let late = Shares(row.late);
-            let sum = verdict(adds_up(*row));
-            println!(rt;
-                "  {side:<5}{number:>5}{entered}{rest}{here}{away}{out}{cancelled}{late}  {sum}"
-            )?;
-        }
+    for row in rows.iter().filter(|row| row.number > 0) {
+        let number = row.number;
+        let entered = shares(row.shares);
+        let rest = shares(row.rest);
+        let here = shares(row.here);
+        let away = shares(row.away);
+        let out = shares(row.out);
+        let cancelled = shares(row.cancelled);
+        let late = shares(row.late);
+        let sum = verdict(adds_up(*row));
+        println!(rt;
+            "  {side:<5}{number:>5}{entered}{rest}{here}{away}{out}{cancelled}{late}  {sum}"
+        )?;
     }
     Ok(())
 }

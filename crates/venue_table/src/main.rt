@@ -8,7 +8,6 @@ use market::side::Side;
 use market::source::QuoteSource;
 use market::venues::VenueTable;
 use report::numbers::{Dollars, Grouped};
-use report::words::refusal_words;
 use std::io;
 
 // What came of a call, in words.
@@ -16,21 +15,18 @@ fn print_answer(rt: &HostRuntime, call: &str, answer: Result<(), Refusal>) -> io
     match answer {
         Ok(()) => println!(rt; "{call}: done"),
         Err(refusal) => {
-            let number = refusal.number();
-            let words = refusal_words(refusal);
-            println!(rt; "{call}: refused with {number}, {words}")
+            let number = u32::from(refusal);
+            println!(rt; "{call}: refused with {number}, {refusal}")
         }
     }
 }
 
 fn print_side(rt: &HostRuntime, table: &VenueTable, side: Side, name: &str) -> io::Result<()> {
-    for place in 0..table.count(side) {
-        if let Some(quote) = table.quote(side, place) {
-            let venue = quote.venue;
-            let shares = Grouped(u64::from(quote.shares));
-            let dollars = Dollars(quote.price);
-            println!(rt; "  venue {venue}: {name} {shares} shares at {dollars}")?;
-        }
+    for quote in table.quotes(side) {
+        let venue = quote.venue;
+        let shares = Grouped(u64::from(quote.shares));
+        let dollars = Dollars(quote.price);
+        println!(rt; "  venue {venue}: {name} {shares} shares at {dollars}")?;
     }
     if let Some(price) = best_price(table, side) {
         let dollars = Dollars(price);
@@ -52,7 +48,7 @@ fn print_table(rt: &HostRuntime, table: &VenueTable) -> io::Result<()> {
     println!(rt; "")
 }
 
-// Venues quote, in no order of their numbers.
+// Venues quote, in no order of their numbers. The table takes any number for a side, 1 for bids and 2 for offers.
 fn fill(rt: &HostRuntime, table: &mut VenueTable) -> io::Result<()> {
     print_answer(
         rt,

@@ -36,12 +36,16 @@ rows side ls = map (λ l. entered_row (record { number = side; side = side; clas
 
 -- the tickets of a close: at a price, those of the buys and then those of the sells
 abbrev pub routed : Book → Outcome → List Ticket
-routed b (Ok (price, count)) = tickets (owed Buy b price) (rows 1 b.buys) b.offers ++ tickets (owed Sell b price) (rows 2 b.sells) b.bids
+routed b (Ok x) = tickets (owed Buy b x.price) (rows 1 b.buys) b.offers ++ tickets (owed Sell b x.price) (rows 2 b.sells) b.bids
 routed b (Err cause) = []
 
 pub record Example : Type 0 where
   pub book : Worked
   pub outcome : Outcome
+
+-- a price and its count
+abbrev snap : ℕ → ℕ → Outcome
+snap price count = Ok (record { price = price; count = count })
 
 abbrev row : Option Level → Option Level → Option Level → Option Level → ℕ → Outcome → Example
 row buy sell bid offer last outcome =
@@ -50,16 +54,16 @@ row buy sell bid offer last outcome =
 -- buys, sells, bids, offers, last sale, outcome
 abbrev pub books : List Example
 books =
-    row (at 100 200200) (at 100 200000) None None 200100 (Ok (200100, 100))
-    ∷ row (at 100 200200) (at 100 200000) None None 200050 (Ok (200000, 100))
-    ∷ row (at 100 200200) (at 100 200000) None None 300000 (Ok (200200, 100))
-    ∷ row (at 100 200200) (at 100 200000) (at 100 199800) (at 100 200400) 0 (Ok (200100, 100))
+    row (at 100 200200) (at 100 200000) None None 200100 (snap 200100 100)
+    ∷ row (at 100 200200) (at 100 200000) None None 200050 (snap 200000 100)
+    ∷ row (at 100 200200) (at 100 200000) None None 300000 (snap 200200 100)
+    ∷ row (at 100 200200) (at 100 200000) (at 100 199800) (at 100 200400) 0 (snap 200100 100)
     ∷ row (at 100 200200) (at 100 200000) None None 0 (Err NoReference)
-    ∷ row (at 100 20000) (at 100 19998) None None 19999 (Ok (19999, 100))
+    ∷ row (at 100 20000) (at 100 19998) None None 19999 (snap 19999 100)
     ∷ row (at 100 199800) (at 100 200000) None None 200000 (Err NothingToTrade)
-    ∷ row (at 100 200200) None None (at 500 200000) 0 (Ok (200000, 100))
-    ∷ row (at 300 200400) (at 100 200400) (at 100 199600) (at 150 200000) 0 (Ok (200400, 250))
-    ∷ row (at 100 200200) (at 50 200000) None None 200000 (Ok (200200, 50))
+    ∷ row (at 100 200200) None None (at 500 200000) 0 (snap 200000 100)
+    ∷ row (at 300 200400) (at 100 200400) (at 100 199600) (at 150 200000) 0 (snap 200400 250)
+    ∷ row (at 100 200200) (at 50 200000) None None 200000 (snap 200200 50)
     ∷ row (at 100 200200) (at 100 200000) (at 100 200000) (at 100 200000) 0 (Err LockedOrCrossed)
     ∷ []
 

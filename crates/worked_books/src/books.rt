@@ -7,9 +7,6 @@ ghost use Rattle.worked_books.specs.Table.{books, worked, BooksClose, BooksRoute
 use pricing::level::Level;
 use routing::ticket::Ticket;
 
-// How many worked books there are.
-pub const BOOKS: usize = 11;
-
 #[derive(Clone, Copy)]
 pub struct Worked {
     pub buy: Option<Level>,
@@ -20,59 +17,76 @@ pub struct Worked {
 }
 
 // Shares at a price.
-const fn at(shares: u32, price: u32) -> Option<Level>
+fn at(shares: u32, price: u32) -> Option<Level>
     ensures { result ≡ Some (record { price = price; shares = shares }) }
 {
     Some(Level { price, shares })
 }
 
-// The worked book at a place, counted from 0; none past the end.
-pub fn book_at(place: usize) -> Option<Worked>
-    ensures { result ≡ slice_get worked place }
+fn book(
+    buy: Option<Level>,
+    sell: Option<Level>,
+    bid: Option<Level>,
+    offer: Option<Level>,
+    last_sale: u32,
+) -> Worked
+    ensures { result ≡ record { buy = buy; sell = sell; bid = bid; offer = offer; last_sale = last_sale } }
 {
-    let (buy, sell, bid, offer, last_sale) = match place {
-        0 => (at(100, 200_200), at(100, 200_000), None, None, 200_100),
-        1 => (at(100, 200_200), at(100, 200_000), None, None, 200_050),
-        2 => (at(100, 200_200), at(100, 200_000), None, None, 300_000),
-        3 => (
+    Worked {
+        buy,
+        sell,
+        bid,
+        offer,
+        last_sale,
+    }
+}
+
+// The worked books: buy, sell, bid, offer, last sale.
+pub fn books() -> [Worked; 11]
+    ensures { result ≡ worked }
+{
+    [
+        book(at(100, 200_200), at(100, 200_000), None, None, 200_100),
+        book(at(100, 200_200), at(100, 200_000), None, None, 200_050),
+        book(at(100, 200_200), at(100, 200_000), None, None, 300_000),
+        book(
             at(100, 200_200),
             at(100, 200_000),
             at(100, 199_800),
             at(100, 200_400),
             0,
         ),
-        4 => (at(100, 200_200), at(100, 200_000), None, None, 0),
-        5 => (at(100, 20_000), at(100, 19_998), None, None, 19_999),
-        6 => (at(100, 199_800), at(100, 200_000), None, None, 200_000),
-        7 => (at(100, 200_200), None, None, at(500, 200_000), 0),
-        8 => (
+        book(at(100, 200_200), at(100, 200_000), None, None, 0),
+        book(at(100, 20_000), at(100, 19_998), None, None, 19_999),
+        book(at(100, 199_800), at(100, 200_000), None, None, 200_000),
+        book(at(100, 200_200), None, None, at(500, 200_000), 0),
+        book(
             at(300, 200_400),
             at(100, 200_400),
             at(100, 199_600),
             at(150, 200_000),
             0,
         ),
-        9 => (at(100, 200_200), at(50, 200_000), None, None, 200_000),
-        10 => (
+        book(at(100, 200_200), at(50, 200_000), None, None, 200_000),
+        book(
             at(100, 200_200),
             at(100, 200_000),
             at(100, 200_000),
             at(100, 200_000),
             0,
         ),
-        _ => return None,
-    };
-    Some(Worked {
-        buy,
-        sell,
-        bid,
-        offer,
-        last_sale,
-    })
+    ]
+}
+
+// The worked book at a place, counted from 0; none past the end.
+pub fn book_at(place: usize) -> Option<Worked>
+    ensures { result ≡ slice_get worked place }
+{
+    books().get(place).copied()
 }
 
 // Shares of the buy, which is order 1, that are sent to venue 1 at a price.
-const fn bought(shares: u32, price: u32) -> Option<Ticket>
+fn bought(shares: u32, price: u32) -> Option<Ticket>
     ensures { result ≡ Some (record { order = 1; venue = 1; price = price; shares = shares; reported = false }) }
 {
     Some(Ticket {
@@ -89,7 +103,6 @@ pub fn ticket_at(place: usize) -> Option<Ticket>
     ensures { SentAt place result }
 {
     match place {
-        0..=6 => None,
         7 => bought(100, 200_000),
         8 => bought(150, 200_000),
         _ => None,
@@ -103,5 +116,5 @@ pub fn worked_books_close() -> usize
     ensures route { BooksRoute }
     ensures imaged { BooksImaged }
 {
-    BOOKS
+    books().len()
 }

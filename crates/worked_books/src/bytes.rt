@@ -1,5 +1,5 @@
 // The bytes of a worked book, and of an answer.
-ghost use Rattle.std.specs.Prelude.{◌≡◌, ◌++◌, is_ok, IfOk, if◌then◌else◌};
+ghost use Rattle.std.specs.Prelude.{◌≡◌, ◌+◌, ◌++◌, ◌≤◌, take, drop, is_ok, IfOk, if◌then◌else◌};
 ghost use Rattle.image.specs.Words.{le};
 ghost use Rattle.worked_books.specs.Bytes.{image_of, answer_in};
 
@@ -21,7 +21,7 @@ pub fn image_of(heap: Global, worked: Worked) -> Result<Vec<u8>, AllocError>
     let lists = [worked.buy, worked.sell, worked.bid, worked.offer];
     let mut bytes = Vec::new(heap);
     for list in lists.iter() {
-        push_word(&mut bytes, if list.is_some() { 1 } else { 0 })?;
+        push_word(&mut bytes, u32::from(list.is_some()))?;
     }
     for list in lists.iter() {
         if let Some(Level { price, .. }) = list {
@@ -36,7 +36,7 @@ pub fn image_of(heap: Global, worked: Worked) -> Result<Vec<u8>, AllocError>
     Ok(bytes)
 }
 
-// An answer as the exported function writes it.
+// An answer as the exported function writes it for C: the cause 0 says that there is a price.
 #[derive(Clone, Copy)]
 pub struct Priced {
     pub price: u32,
@@ -44,20 +44,24 @@ pub struct Priced {
     pub count: u64,
 }
 
-impl Priced {
-    pub fn read(out: &[u8; 16]) -> Priced
-        ensures { result ≡ answer_in out.now }
-    {
-        let mut price = [0; 4];
-        let mut cause = [0; 4];
-        let mut count = [0; 8];
-        price.copy_from_slice(&out[0..4]);
-        cause.copy_from_slice(&out[4..8]);
-        count.copy_from_slice(&out[8..16]);
+// The bytes of an answer from a place on.
+fn part<const N: usize>(out: &[u8; 16], from: usize) -> [u8; N]
+    requires { from + N ≤ 16 }
+    ensures { result ≡ take N (drop from out.now) }
+{
+    let mut bytes = [0; N];
+    bytes.copy_from_slice(&out[from..from + N]);
+    bytes
+}
+
+impl From<&[u8; 16]> for Priced {
+    ghost from_gives = { λ out priced. priced ≡ answer_in out.now };
+
+    fn from(out: &[u8; 16]) -> Priced {
         Priced {
-            price: u32::from_le_bytes(price),
-            cause: u32::from_le_bytes(cause),
-            count: u64::from_le_bytes(count),
+            price: u32::from_le_bytes(part(out, 0)),
+            cause: u32::from_le_bytes(part(out, 4)),
+            count: u64::from_le_bytes(part(out, 8)),
         }
     }
 }

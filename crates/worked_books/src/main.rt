@@ -4,7 +4,7 @@
 mod books;
 mod bytes;
 
-use books::{BOOKS, Worked, book_at, worked_books_close};
+use books::{Worked, books, worked_books_close};
 use bytes::{Priced, image_of};
 use image::export::snap_price_image;
 use pricing::level::Level;
@@ -41,7 +41,7 @@ fn print_book(rt: &HostRuntime, number: usize, worked: Worked) -> anyhow::Result
     let offer = entry_words(rt, worked.offer)?;
     let last = Grouped(u64::from(worked.last_sale)).to_string(rt.alloc())?;
     let outcome = if refusal == 0 {
-        outcome_words(rt, Priced::read(&out))?
+        outcome_words(rt, Priced::from(&out))?
     } else {
         format!(in rt.alloc(); "refused with {refusal}")?
     };
@@ -55,10 +55,8 @@ fn main(rt: HostRuntime) -> anyhow::Result<()> {
         "{proved} worked books, whose outcomes are proved of the rules, priced by the exported function"
     )?;
     println!(rt; "No  buy          sell         bid          offer        last sale  outcome")?;
-    for place in 0..BOOKS {
-        if let Some(worked) = book_at(place) {
-            print_book(&rt, place + 1, worked)?;
-        }
+    for (number, worked) in (1..).zip(&books()) {
+        print_book(&rt, number, *worked)?;
     }
     Ok(())
 }
@@ -66,6 +64,7 @@ fn main(rt: HostRuntime) -> anyhow::Result<()> {
 #[cfg(test)]
 mod tests {
     use super::*;
+    use books::book_at;
     use std::test::Fail;
 
     // Book nine: the buy of 300 finds 100 shares here and 150 outside.
@@ -78,7 +77,7 @@ mod tests {
             snap_price_image(image.as_slice(), worked.last_sale, &mut out),
             0
         );
-        let priced = Priced::read(&out);
+        let priced = Priced::from(&out);
         assert_eq!(rt; priced.price, 200_400);
         assert_eq!(rt; priced.cause, 0);
         assert_eq!(rt; priced.count, 250);

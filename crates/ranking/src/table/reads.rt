@@ -1,5 +1,5 @@
 // How a ranked table is made and read.
-ghost use Rattle.std.specs.Prelude.{◌≡◌, min, length};
+ghost use Rattle.std.specs.Prelude.{◌≡◌, ◌↔◌, [], min, length, IsTrue};
 ghost use Rattle.std.specs.List.{slice_get};
 ghost use Rattle.ranking.specs.Held.{rows_of, entries};
 
@@ -30,15 +30,23 @@ impl<'a, E: Copy, R: Ranking<E>> RankedTable<'a, E, R> {
         self.used
     }
 
+    // Whether there is no entry.
+    pub fn is_empty(&self) -> bool
+        ensures { IsTrue result ↔ (entries self.now ≡ []) }
+    {
+        self.len() == 0
+    }
+
     // The entry at a place, the best one at 0; none past the last.
     pub fn get(&self, place: usize) -> Option<E>
         ensures { result ≡ slice_get (entries self.now) place }
     {
-        if place < self.len() {
-            let rows = &*self.rows;
-            Some(rows[place])
-        } else {
-            None
-        }
+        self.entries().get(place).copied()
+    }
+
+    fn entries(&self) -> &[E]
+        ensures { result.now ≡ entries self.now }
+    {
+        &self.rows[..self.used]
     }
 }

@@ -5,7 +5,7 @@ use Rattle.market.specs.Venues.{market_in}
 use Rattle.engine.specs.States.{Held, held}
 use Rattle.engine.specs.Effects.{Left, left}
 use Rattle.engine.specs.Steps.{Called}
-use Rattle.benches.specs.declared.calls.Sent.{Sent}
+use Rattle.orders.specs.declared.order.Order.{Order}
 use Rattle.benches.specs.Calls.{call_with, Brought, none, more}
 use Rattle.benches.proofs.calls.take_orders.Goals as goal
 
@@ -20,13 +20,13 @@ loop-place-init c =
 pub loop-place-preserved : goal.loop-place-preserved
 loop-place-preserved c =
     let m : Market = market_in c.args.venues.now in
-    let sent : Sent = get_or c.args.orders.now c.loop-place.place (record { number = 0; side = 0; class = 0; price = 0; shares = 0 }) in
+    let order : Order = get_or c.args.orders.now c.loop-place.place (record { number = 0; side = 0; class = 0; price = 0; shares = 0 }) in
     let left : Left = left c.call.new.engine c.call.new.tables c.call.result in
-    let called : Called c.loop-place.engine m (held c.loop-place.tables) (call_with c.loop-place.place sent) left =
+    let called : Called c.loop-place.engine m (held c.loop-place.tables) (call_with c.loop-place.place order) left =
     subst (λ call. Called c.loop-place.engine m (held c.loop-place.tables) call left) c.call_with.ensures c.call.ensures.called in
     let before = c.loop-place.invariant.1 in
     let after = c.call.ensures.names in (
-      more sent left (slice_get-get_or c.args.orders.now c.loop-place.place _ c.loop-place-test.true) c.loop-place.invariant.0 called,
+      more order left (slice_get-get_or c.args.orders.now c.loop-place.place _ c.loop-place-test.true) c.loop-place.invariant.0 called,
       record {
         buys = after.buys ∙ before.buys;
         sells = after.sells ∙ before.sells;

@@ -6,5 +6,5 @@ use Rattle.orders.proofs.side.cancel_all.Given as goal
 
 abbrev pub invariant-loop-row : goal.invariant-loop-row
 invariant-loop-row l =
-    Swept (if_whole with_cancelled) l.initial.rows l.row-index l.total l.rows
+    Swept (if_whole with_cancelled) l.initial.row-items l.row-index l.total l.row-items
     × (l.total ≤ 4294967295 * l.row-index)

@@ -1,53 +1,31 @@
-use Rattle.std.proofs.Common.{◌≡◌, sym, subst, arith}
-use Rattle.pricing.specs.Books.{count_at}
+use Rattle.std.proofs.Common.{sym, subst, arith}
 use Rattle.pricing.specs.Candidates.{Chosen}
 use Rattle.pricing.specs.Ranges.{Within}
 use Rattle.pricing.proofs.Rows.{lo_le_hi}
 use Rattle.pricing.proofs.Choosing.{only_chosen}
-use Rattle.pricing.proofs.Outcomes.{nothing, something, single, priced, undecided}
+use Rattle.pricing.proofs.Outcomes.{nothing, something, single, snapped, undecided}
 use Rattle.pricing.proofs.close.snap.Goals as goal
 
 pub returns-then-count-eq0 : goal.returns-then-count-eq0
-returns-then-count-eq0 g c s =
-    let b = g.B.BookView.book c.args.view.now in
-    let lo = c.lowest-low.result in
-    let l = c.lowest-low.ensures.lowest s in
-    nothing b s lo l (omega (arith, c.count_at-count.ensures))
+returns-then-count-eq0 g c s = nothing _ s _ (c.lowest-low.ensures.lowest s) (omega (arith, c.count_at-count.ensures))
 
 pub returns-then-low-high : goal.returns-then-low-high
 returns-then-low-high g c s =
-    let b = g.B.BookView.book c.args.view.now in
-    let lo = c.lowest-low.result in
-    let hi = c.highest-high.result in
     let l = c.lowest-low.ensures.lowest s in
     let h = c.highest-high.ensures.highest s l in
-    let e : c.count_at-count.result ≡ count_at b lo = omega (arith, c.count_at-count.ensures) in (
-      something b s lo l (omega (arith, c.if-count-eq0.false)),
-      priced b s lo l hi h c.args.reference lo c.count_at-count.result (only_chosen (Within lo hi) c.args.reference lo (single b s lo l hi h c.if-low-high.true)) e,
-    )
+    let chosen = only_chosen (Within c.lowest-low.result c.highest-high.result) c.args.reference c.lowest-low.result (single _ s _ l _ h c.if-low-high.true) in
+    snapped _ s _ l _ h c.args.reference _ _ c.count_at-count.ensures c.if-count-eq0.false chosen
 
-pub returns-in-Some : goal.returns-in-Some
-returns-in-Some g c s =
-    let b = g.B.BookView.book c.args.view.now in
-    let lo = c.lowest-low.result in
-    let hi = c.highest-high.result in
+pub returns : goal.returns
+returns g c s =
     let l = c.lowest-low.ensures.lowest s in
     let h = c.highest-high.ensures.highest s l in
-    let e : c.count_at-count.result ≡ count_at b lo = omega (arith, c.count_at-count.ensures) in
-    let near = c.nearest.ensures l.permitted h.permitted (lo_le_hi b s lo l hi h) in
-    let chosen = subst (λ ref. Chosen (Within lo hi) ref c.nearest.result) (sym c.in-Some.is) near in (
-      something b s lo l (omega (arith, c.if-count-eq0.false)),
-      priced b s lo l hi h c.args.reference c.nearest.result c.count_at-count.result chosen e,
-    )
+    let near = c.nearest-price.ensures l.permitted h.permitted (lo_le_hi _ s _ l _ h) in
+    let chosen = subst (λ ref. Chosen (Within c.lowest-low.result c.highest-high.result) ref c.nearest-price.result) (sym c.in-Some.is) near in
+    snapped _ s _ l _ h c.args.reference _ _ c.count_at-count.ensures c.if-count-eq0.false chosen
 
-pub returns-in-None : goal.returns-in-None
-returns-in-None g c s =
-    let b = g.B.BookView.book c.args.view.now in
-    let lo = c.lowest-low.result in
-    let hi = c.highest-high.result in
+pub returns-in_default : goal.returns-in_default
+returns-in_default g c s =
     let l = c.lowest-low.ensures.lowest s in
     let h = c.highest-high.ensures.highest s l in
-    let e : c.count_at-count.result ≡ count_at b lo = omega (arith, c.count_at-count.ensures) in (
-      something b s lo l (omega (arith, c.if-count-eq0.false)),
-      undecided b s lo l hi h c.args.reference c.in-None.is c.if-low-high.false,
-    )
+    (something _ s _ l (omega (arith, c.count_at-count.ensures, c.if-count-eq0.false)), undecided _ s _ l _ h c.args.reference c.in_default.is c.if-low-high.false)

@@ -1,25 +1,15 @@
-use Rattle.std.proofs.Common.{◌+◌, sym, subst, arith}
-use Rattle.std.proofs.lemmas.Bool.{eqb-true, eqb-false}
-use Rattle.pricing.specs.Books.{demand_at, supply_at}
+use Rattle.std.proofs.Common.{sym, ◌∙◌, subst, arith}
 use Rattle.pricing.specs.Ranges.{Highest}
 use Rattle.pricing.proofs.Next.{highest_next, highest_same, price_most}
 use Rattle.pricing.proofs.range.highest.Goals as goal
 
-pub returns-then-is_balanced : goal.returns-then-is_balanced
-returns-then-is_balanced g c =
-    let b = g.B.BookView.book c.args.view.now in
-    let lo = c.args.lowest in
-    let tight = eqb-true (demand_at b (lo + 1)) (supply_at b lo) (sym c.if-is_balanced.ensures) in
-    record {
-      inside = omega (arith, c.next_price.ensures, price_most b lo);
-      highest = λ s l. subst (Highest b) (sym c.next_price.ensures) (highest_next b s lo l tight);
-    }
+pub returns-then-demand-supply-clause-inside : goal.returns-then-demand-supply-clause-inside
+returns-then-demand-supply-clause-inside g c = omega (arith, c.next_price.ensures, price_most (g.B.BookView.book c.args.view.now) c.args.lowest)
 
-pub returns-else-is_balanced : goal.returns-else-is_balanced
-returns-else-is_balanced g c =
-    let b = g.B.BookView.book c.args.view.now in
-    let lo = c.args.lowest in
-    record {
-      inside = omega arith;
-      highest = λ s l. highest_same b s lo l (eqb-false (demand_at b (lo + 1)) (supply_at b lo) (sym c.if-is_balanced.ensures));
-    }
+pub returns-then-demand-supply-clause-highest : goal.returns-then-demand-supply-clause-highest
+returns-then-demand-supply-clause-highest g c s l =
+    let tight = sym c.demand.ensures ∙ c.if-demand-supply.true ∙ c.supply.ensures in
+    subst (Highest (g.B.BookView.book c.args.view.now)) (sym c.next_price.ensures) (highest_next _ s _ l tight)
+
+pub returns-else-demand-supply-clause-highest : goal.returns-else-demand-supply-clause-highest
+returns-else-demand-supply-clause-highest g c s l = highest_same _ s _ l (λ tight. c.if-demand-supply.false (c.demand.ensures ∙ tight ∙ sym c.supply.ensures))

@@ -1,5 +1,4 @@
 use Rattle.std.proofs.Common.{◌≡◌, ◌+◌, ◌<◌, ◌≤◌, sym, subst, inl, inr, arith}
-use Rattle.std.proofs.lemmas.Bool.{leb-true, leb-false}
 use Rattle.market.proofs.Grid.{grid}
 use Rattle.pricing.specs.Books.{wanted_above, supply_at}
 use Rattle.pricing.specs.Ranges.{price_at, Lowest}
@@ -11,16 +10,16 @@ pub loop-low-init : goal.loop-low-init
 loop-low-init g c =
     (omega arith, omega arith, λ s. omega (arith, none_wanted _ s), λ s q ok h. omega (arith, (grid q ok).least))
 
-pub loop-low-preserved-then-is_served : goal.loop-low-preserved-then-is_served
-loop-low-preserved-then-is_served g c =
+pub loop-low-preserved-then-demand-supply : goal.loop-low-preserved-then-demand-supply
+loop-low-preserved-then-demand-supply g c =
     let b = g.B.BookView.book c.args.view.now in
-    let here = buyers_pass b c.price_at-price.result (leb-true _ _ (sym c.if-is_served.ensures)) in
+    let here = buyers_pass b c.price_at-price.result (omega (arith, c.demand.ensures, c.supply.ensures, c.if-demand-supply.true)) in
     (omega arith, omega arith, λ s. subst (λ x. wanted_above b x ≤ supply_at b x) c.price_at-price.ensures here, c.loop-low.invariant.3)
 
 pub loop-low-preserved : goal.loop-low-preserved
 loop-low-preserved g c =
     let b = g.B.BookView.book c.args.view.now in
-    let here = buyers_fail b c.price_at-price.result (leb-false _ _ (sym c.if-is_served.ensures)) in
+    let here = buyers_fail b c.price_at-price.result (omega (arith, c.demand.ensures, c.supply.ensures, c.if-demand-supply.false)) in
     (omega arith, omega arith, c.loop-low.invariant.2, λ s q ok h. subst (λ x. x < q) c.price_at-price.ensures (here q h))
 
 pub returns : goal.returns

@@ -1,23 +1,22 @@
-use Rattle.std.proofs.Common.{◌≡◌, map, sym, ap, ◌∙◌, arith}
-use Rattle.std.specs.List.{range_with_len}
-use Rattle.pricing.specs.Ranges.{next_above}
-use Rattle.image.specs.Entries.{level_at, length_in}
-use Rattle.image.proofs.Lists.{next_more}
+use Rattle.std.proofs.Common.{rules, ◌≡◌, ◌∙◌, min, sym, ap}
+use Rattle.std.proofs.lemmas.Iterator.{YieldsList-from_map}
+use Rattle.std.proofs.lemmas.Iterator.Consumers.{YieldsList-from_first, fold_from_yields_List}
+use Rattle.market.specs.Limits.{highest_price}
+use Rattle.pricing.specs.Ranges.{standing, next_above}
+use Rattle.pricing.proofs.Executable.{least_of}
+use Rattle.image.specs.Held.{levels_of, levels_left}
 use Rattle.image.proofs.Meanings.{levels_in_lem}
 use Rattle.image.proofs.entries.Entries.next_above.Goals as goal
 
-pub loop-place-preserved : goal.loop-place-preserved
-loop-place-preserved c =
-    let f = level_at c.args.self.now.prices.now c.args.self.now.shares.now in
-    let e = next_more f c.args.price c.loop-place.place in
-    let p = c.word_at.ensures in
-    let s = c.word_at-in-loop-place.ensures in
-    cc
+is : (c : goal.After-fold) → c.fold.result ≡ next_above c.args.price (levels_of c.args.self.now)
+is c =
+    fold_from_yields_List _ (λ least p. min least p) highest_price c.fold.result c.fold.ensures.ran
+    (YieldsList-from_map _ (standing c.args.price) (YieldsList-from_first (λ x. x) levels_left (levels_of c.args.self.now) (cc)) c.map.ensures.closure (λ x r q k. search rules))
+    (λ a x b q k. search rules)
+    ∙ least_of c.args.price (levels_of c.args.self.now)
 
-pub returns : goal.returns
-returns c =
-    let ps = c.args.self.now.prices.now in
-    let ss = c.args.self.now.shares.now in
-    let e : c.loop-place.place ≡ length_in ps ss = omega (arith, c.len-place-end.ensures.is) in
-    let is = c.loop-place.invariant ∙ ap (λ n. next_above c.args.price (map (level_at ps ss) (range_with_len 0 n))) e in
-    record { is = is; quoted = is ∙ sym (ap (next_above c.args.price) (levels_in_lem ps ss)) }
+pub returns-clause-is : goal.returns-clause-is
+returns-clause-is c = is c
+
+pub returns-clause-quoted : goal.returns-clause-quoted
+returns-clause-quoted c = is c ∙ sym (ap (next_above c.args.price) (levels_in_lem c.args.self.now.prices.now c.args.self.now.shares.now))

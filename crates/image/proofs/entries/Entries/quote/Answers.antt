@@ -1,17 +1,12 @@
-use Rattle.image.proofs.Lists.{nth_counted, nth_counted_past}
-use Rattle.std.proofs.Common.{sym, arith}
-use Rattle.image.specs.Entries.{quote_at, length_in}
+use Rattle.std.proofs.Common.{sym, ◌∙◌, arith}
+use Rattle.image.proofs.Lists.{entry_within, quote_there}
 use Rattle.image.proofs.entries.Entries.quote.Goals as goal
 
-pub returns-then-place-len : goal.returns-then-place-len
-returns-then-place-len c =
-    let ps = c.args.self.now.prices.now in
-    let ss = c.args.self.now.shares.now in
-    sym (nth_counted_past (quote_at ps ss) (length_in ps ss) c.args.place (omega (arith, c.len.ensures.is)))
+pub quote_of-requires : goal.quote_of-requires
+quote_of-requires c =
+    omega (arith, entry_within c.args.self.now.prices.now c.args.self.now.shares.now c.args.place c.in_ok-level.level (sym c.get.ensures ∙ c.in_ok-level.was))
 
 pub returns : goal.returns
 returns c =
-    let ps = c.args.self.now.prices.now in
-    let ss = c.args.self.now.shares.now in
-    let e = nth_counted (quote_at ps ss) (length_in ps ss) c.args.place (omega (arith, c.len.ensures.is)) in
-    cc
+    let there = quote_there c.args.self.now.prices.now c.args.self.now.shares.now c.args.place c.in_ok-level.level (sym c.get.ensures ∙ c.in_ok-level.was) in
+    rw c.quote_of.ensures (sym there)

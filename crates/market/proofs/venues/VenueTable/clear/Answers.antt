@@ -1,36 +1,8 @@
-use Rattle.std.proofs.Common.{◌≡◌, ◌-◌, set, None, arith, rules}
-use Rattle.market.specs.Venues.{without}
-use Rattle.market.proofs.Slots.{listed_clear, place_facts, by_venue, bids_changed, offers_changed}
+use Rattle.market.proofs.Slots.{by_venue}
 use Rattle.market.proofs.venues.VenueTable.clear.Goals as goal
 
-pub returns-then-not-is_place : goal.returns-then-not-is_place
-returns-then-not-is_place c =
-    let t = c.args.self.now in
-    record { answer = search rules; market = search rules; refused = search rules; listed = by_venue t.bids t.offers t.halted }
+pub returns-in_err-side-clause-listed : goal.returns-in_err-side-clause-listed
+returns-in_err-side-clause-listed c = by_venue c.args.self.now
 
-pub returns-then-side-eq1 : goal.returns-then-side-eq1
-returns-then-side-eq1 c =
-    let a = c.args in
-    let t = a.self.now in
-    let f = place_facts a.venue a.side c.if-not-is_place.ensures in
-    let after = set t.bids (a.venue - 1) (None) in
-    record {
-      answer = search rules;
-      market = bids_changed t.bids t.offers t.halted a.side (without a.venue) after c.if-side-eq1.true (listed_clear 1 (a.venue - 1) a.venue t.bids (omega arith) (omega arith));
-      refused = search rules;
-      listed = by_venue after t.offers t.halted;
-    }
-
-pub returns-else-side-eq1 : goal.returns-else-side-eq1
-returns-else-side-eq1 c =
-    let a = c.args in
-    let t = a.self.now in
-    let f = place_facts a.venue a.side c.if-not-is_place.ensures in
-    let two : a.side ≡ 2 = omega arith in
-    let after = set t.offers (a.venue - 1) (None) in
-    record {
-      answer = search rules;
-      market = offers_changed t.bids t.offers t.halted a.side (without a.venue) after two (listed_clear 1 (a.venue - 1) a.venue t.offers (omega arith) (omega arith));
-      refused = search rules;
-      listed = by_venue t.bids after t.halted;
-    }
+pub returns-clause-listed : goal.returns-clause-listed
+returns-clause-listed c = by_venue c.put.new.self

@@ -1,0 +1,19 @@
+use Rattle.std.proofs.Common.{◌≡◌, ◌+◌, ◌<◌, rules}
+use Rattle.market.specs.Markets.{quotes_on}
+use Rattle.market.specs.Quotes.{quotes_left}
+use Rattle.market.proofs.Places.{left_first, less_left}
+use Rattle.market.proofs.quotes.QuotesIterator.next.Goals as goal
+
+pub returns-clause-steps : goal.returns-clause-steps
+returns-clause-steps g c =
+    let s = c.args.self.now in
+    let t = c.next.new.self in
+    let xs = quotes_on s.side (g.S.QuoteSource.meaning s.source.now) in
+    let from : c.in_ok-place.place ≡ s.places.start = search rules in
+    let more : t.start ≡ s.places.start + 1 = search rules in
+    let same : t.end ≡ s.places.end = search rules in
+    let within : s.places.start < s.places.end = search rules in
+    rw (more, same, c.quote.ensures, from) (left_first xs s.places.start s.places.end within)
+
+pub returns-clause-goes : goal.returns-clause-goes
+returns-clause-goes g c = less_left (quotes_left g.S.QuoteSource.meaning) c.args.self.now _ c.quote.result (returns-clause-steps g c)

@@ -1,0 +1,10 @@
+-- The prices at which shares stand in a book, one after another.
+use Rattle.std.specs.Prelude.{◌≡◌, ℕ, ◌<◌, Option, IfSome}
+use Rattle.market.specs.Limits.{highest_price}
+use Rattle.pricing.specs.Ranges.{next_price}
+use Rattle.image.specs.Held.{book_of}
+use Rattle.price_image.specs.declared.prices.Prices.{Prices}
+
+-- a step gives the next price of the book, one below the highest there is, and goes on above it
+abbrev pub StepsUp : Prices → Option ℕ → Prices → Type 0
+StepsUp before given after = IfSome given (λ price. (price ≡ next_price (book_of before.book) before.above) × (price < highest_price) × (after.book ≡ before.book) × (after.above ≡ price))
