@@ -135,6 +135,7 @@ fn call_after(
     runs::call(&mut engine, call, venues, tables)
 }
 
+// C lends each table and each list by itself, so both exports take them one by one.
 // Takes orders, and then enters the next one; answers its refusal, or 0.
 #[unsafe(no_mangle)]
 pub extern "C" fn bench_enter<'a>(

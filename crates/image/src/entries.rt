@@ -17,7 +17,7 @@ use pricing::level::Level;
 // The most entries that a list has.
 pub const MOST_ENTRIES: usize = 512;
 
-// An entry as a quote, whose venue is its place plus 1.
+// An entry as a quote, whose venue is its place plus 1: no conversion, since the entry does not know its place.
 fn quote_of(level: Level, place: usize) -> Quote
     requires { place < 512 }
     ensures { result ≡ record { price = level.price; shares = level.shares; venue = place + 1 } }

@@ -22,7 +22,7 @@ struct Sizes {
 }
 
 impl Sizes {
-    // The sizes of bytes that have the layout of an image.
+    // The sizes of bytes that have the layout of an image: read off its first words, as the book is below.
     fn read(bytes: &[u8]) -> Result<Sizes, Refusal>
         ensures { MatchResult result (λ z. (is_image bytes.now ≡ true) × Sized bytes.now z.buys z.sells z.bids z.offers) (λ e. (is_image bytes.now ≡ false) × (e ≡ ImageLayout)) }
     {

@@ -11,6 +11,7 @@ use std::str::{FromStr, Split};
 #[derive(Clone, Copy, Debug)]
 pub struct NoLine;
 
+// Written out: one text for one error.
 impl fmt::Display for NoLine {
     fn fmt<W: fmt::Write>(&self, f: &mut fmt::Formatter<W>) -> fmt::Result {
         write!(f, "play_calls: a line is none that it reads")

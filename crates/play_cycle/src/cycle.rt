@@ -14,6 +14,7 @@ use report::numbers::{Dollars, Grouped};
 use sheets::sheets::{print_depth, print_outstanding};
 use std::io;
 
+// A quote on a side has a word of its own, bid or offer.
 fn print_best(rt: &HostRuntime, desk: &Desk, side: Side, name: &str) -> io::Result<()> {
     match best_price(&desk.venues, side) {
         Some(price) => {

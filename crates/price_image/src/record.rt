@@ -26,6 +26,7 @@ pub fn print_request(rt: &HostRuntime, request: &Request, bytes: usize) -> io::R
     println!(rt; "last eligible sale: {dollars} ({points} points)")
 }
 
+// The word for a side is another for orders than for quotes, so it goes with the side.
 fn print_orders(rt: &HostRuntime, book: &BookImage<'_>, side: Side, name: &str) -> io::Result<()> {
     for order in book.orders(side).levels() {
         let shares = Column::<14>(u64::from(order.shares));

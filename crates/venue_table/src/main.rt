@@ -21,6 +21,7 @@ fn print_answer(rt: &HostRuntime, call: &str, answer: Result<(), Refusal>) -> io
     }
 }
 
+// A quote on a side has a word of its own, bid or offer.
 fn print_side(rt: &HostRuntime, table: &VenueTable, side: Side, name: &str) -> io::Result<()> {
     for quote in table.quotes(side) {
         let venue = quote.venue;

@@ -98,7 +98,7 @@ fn bought(shares: u32, price: u32) -> Option<Ticket>
     })
 }
 
-// The ticket of the worked book at a place, where it has one.
+// The ticket of the worked book at a place, where it has one: two of the books do.
 pub fn ticket_at(place: usize) -> Option<Ticket>
     ensures { SentAt place result }
 {
