@@ -1,12 +1,11 @@
 -- Shares handed out reach an order only once every order ahead of it has given its whole rest.
 use Rattle.std.proofs.Common.{◌≡◌, ℕ, zero, suc, ◌+◌, ◌<◌, ◌≤◌, min, Bool, true, false, cond, List, [], ◌∷◌, length, get_or, sum_by, refl, ap, ◌∙◌, inl, inr, arith}
 use Rattle.std.proofs.lemmas.List.{get_or-map}
-use Rattle.std.proofs.lemmas.List.Sums.{sum_by-cons}
+use Rattle.std.proofs.lemmas.List.Sums.{sum_by-cons, sum_by-le-sum_by}
 use Rattle.std.proofs.lemmas.Bool.{cases_Bool, cond-true, cond-false}
 use Rattle.market.specs.declared.side.Side.{Side}
 use Rattle.market.specs.declared.side.Side.TheVariants.{Buy, Sell}
 use Rattle.market.specs.Markets.{Market}
-use Rattle.pricing.proofs.Levels.{sum_by_mono}
 use Rattle.orders.specs.declared.row.OrderRow.{OrderRow}
 use Rattle.orders.specs.Rows.{empty_row, with_here, with_out}
 use Rattle.routing.specs.Allotment.{ahead_of}
@@ -35,7 +34,7 @@ module _ {E : Type 0} (ahead : E → E → Bool) (size : E → ℕ) (apart : (a 
       sum_by-cons (λ y. cond (passes y) (size y) 0) x xs,
       cond-false (ahead x x) (size x) 0 (not_itself x),
       cond-true (passes x) (size x) 0 h,
-      sum_by_mono (λ y. cond (ahead y x) (size y) 0) (λ y. cond (passes y) (size y) 0) (λ y. part_most x y h) xs,
+      sum_by-le-sum_by (λ y. cond (ahead y x) (size y) 0) (λ y. cond (passes y) (size y) 0) xs (λ y. part_most x y h),
     )
     ahead_with (x ∷ xs) (suc j) d l h =
         let a : E = get_or xs j d in

@@ -1,13 +1,13 @@
 -- What rests on a side: in its rows and in the tally's orders alike, and after shares were handed out.
 use Rattle.std.proofs.Common.{◌≡◌, ℕ, zero, suc, ◌+◌, ◌-◌, ◌≤◌, min, Bool, true, cond, leb, List, [], ◌∷◌, map, length, replicate, sum_by, sym, refl, ap, ◌∙◌, arith}
 use Rattle.std.specs.List.{AllByRecursion}
-use Rattle.std.proofs.lemmas.List.Sums.{sum_by-cons, sum_by-append}
+use Rattle.std.proofs.lemmas.List.Sums.{sum_by-cons, sum_by-append, sum_by-le-sum_by}
 use Rattle.std.proofs.lemmas.Bool.Decides.{nat_tests}
 use Rattle.ranking.specs.Ranked.{ranked}
 use Rattle.ranking.proofs.Ranks.{sum_ranked, all_ranked}
 use Rattle.market.specs.declared.side.Side.{Side}
 use Rattle.market.specs.declared.side.Side.TheVariants.{Buy, Sell}
-use Rattle.pricing.proofs.Levels.{sum_by_mono, sum_by_same}
+use Rattle.pricing.proofs.Levels.{sum_by_same}
 use Rattle.orders.specs.declared.row.OrderRow.{OrderRow}
 use Rattle.orders.specs.Rows.{empty_row, is_whole, with_here}
 use Rattle.orders.specs.Tables.{available, rest_levels}
@@ -38,7 +38,7 @@ part_within Buy p w = grind (arith, nat_tests)
 part_within Sell p w = grind (arith, nat_tests)
 
 pub executable_within : (side : Side) (p : ℕ) (ws : List OrderRow) → executable_of side p (rest_levels ws) ≤ sum_by (λ w. w.rest) ws
-executable_within side p ws = omega (arith, executable_sum side p ws, sum_by_mono (rest_part side p) (λ w. w.rest) (part_within side p) ws)
+executable_within side p ws = omega (arith, executable_sum side p ws, sum_by-le-sum_by (rest_part side p) (λ w. w.rest) ws (part_within side p))
 
 -- empty rows add nothing to a sum
 sum_empty : (f : OrderRow → ℕ) → f empty_row ≡ 0 → (n : ℕ) → sum_by f (replicate n empty_row) ≡ 0

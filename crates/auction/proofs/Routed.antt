@@ -1,5 +1,5 @@
 -- A close that fixes a price keeps the engine, its tables and the tally together.
-use Rattle.std.proofs.Common.{◌≡◌, ℕ, zero, suc, ◌+◌, ◌<◌, ◌≤◌, Bool, true, false, cond, ltb, List, [], ◌∷◌, ◌++◌, map, length, replicate, Ok, sym, refl, ap, ◌∙◌, subst, append-nil, arith}
+use Rattle.std.proofs.Common.{◌≡◌, ℕ, ◌+◌, ◌<◌, ◌≤◌, Bool, true, false, cond, ltb, List, [], ◌∷◌, ◌++◌, map, length, replicate, Ok, sym, refl, ap, ◌∙◌, subst, append-nil, arith}
 use Rattle.std.proofs.lemmas.Bool.{false≢true, ltb-true, ltb-false, cond_both}
 use Rattle.ranking.specs.Ranked.{ranked}
 use Rattle.ranking.proofs.Listed.{length_ranked}
@@ -16,7 +16,8 @@ use Rattle.orders.specs.declared.row.OrderRow.{OrderRow}
 use Rattle.orders.specs.Rows.{with_out}
 use Rattle.orders.specs.Tables.{handed}
 use Rattle.routing.specs.declared.ticket.Ticket.{Ticket}
-use Rattle.routing.specs.Shares.{Tie, cell, put, line, lines}
+use Rattle.routing.proofs.Walk.{put_none}
+use Rattle.routing.specs.Shares.{cell, line, lines}
 use Rattle.routing.specs.Owed.{owed}
 use Rattle.routing.specs.Tickets.{empty_ticket, rests, sizes, ticket_of, tickets}
 use Rattle.routing.proofs.Count.{tickets_most}
@@ -34,13 +35,9 @@ use Rattle.auction.proofs.Used.{written_empty, in_use}
 use Rattle.auction.proofs.Books.{owed_like, books_alike}
 
 -- nothing routed, or nothing quoted: no ties
-none_put : (i j c : ℕ) (ts : List Tie) → c ≡ 0 → put i j c ts ≡ ts
-none_put i j zero ts e = refl
-none_put i j (suc c) ts e = absurd (omega arith)
-
 none_line : (i a r j b : ℕ) (ss : List ℕ) → line 0 i a r j b ss ≡ []
 none_line i a r j b [] = refl
-none_line i a r j b (s ∷ ss) = none_put i j (cell 0 a r b s) (line 0 i a r (j + 1) (b + s) ss) (omega arith) ∙ none_line i a r (j + 1) (b + s) ss
+none_line i a r j b (s ∷ ss) = put_none i j (cell 0 a r b s) (line 0 i a r (j + 1) (b + s) ss) (omega arith) ∙ none_line i a r (j + 1) (b + s) ss
 
 none_lines : (i a : ℕ) (rs : List ℕ) (j b : ℕ) (ss : List ℕ) → lines 0 i a rs j b ss ≡ []
 none_lines i a [] j b ss = refl

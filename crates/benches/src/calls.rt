@@ -23,7 +23,7 @@ use routing::ticket::Ticket;
 
 // What a close answers, in numbers: the refusal, or 0 with the others.
 #[repr(C)]
-#[derive(Clone, Copy, Default)]
+#[derive(Clone, Copy, Debug, Default, PartialEq, Eq)]
 pub struct Closed {
     pub refusal: u32,
     pub cause: u32,

@@ -7,7 +7,7 @@ use ranking::rank::Ranking;
 use std::cmp::Reverse;
 
 #[repr(C)]
-#[derive(Clone, Copy)]
+#[derive(Clone, Copy, Debug, PartialEq, Eq)]
 pub struct Row {
     pub number: u32,
     pub class: u32,

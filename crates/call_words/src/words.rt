@@ -39,7 +39,7 @@ pub fn class_name(class: u32) -> &'static str {
     }
 }
 
-#[derive(Clone, Copy)]
+#[derive(Clone, Copy, Debug, PartialEq, Eq)]
 pub struct OrderWords(pub Order);
 
 impl fmt::Display for OrderWords {
@@ -53,7 +53,7 @@ impl fmt::Display for OrderWords {
     }
 }
 
-#[derive(Clone, Copy)]
+#[derive(Clone, Copy, Debug, PartialEq, Eq)]
 pub struct CallWords(pub Call);
 
 impl fmt::Display for CallWords {
@@ -94,7 +94,7 @@ impl fmt::Display for CallWords {
     }
 }
 
-#[derive(Clone, Copy)]
+#[derive(Clone, Copy, Debug, PartialEq, Eq)]
 pub struct AnswerWords(pub Answer);
 
 impl fmt::Display for AnswerWords {
@@ -127,7 +127,7 @@ impl fmt::Display for AnswerWords {
 }
 
 // What came of a call.
-#[derive(Clone, Copy)]
+#[derive(Clone, Copy, Debug, PartialEq, Eq)]
 pub struct Outcome(pub Result<Answer, Refusal>);
 
 impl fmt::Display for Outcome {

@@ -13,7 +13,8 @@ use market::side::Side;
 use orders::row::OrderRow;
 use pricing::level::executable;
 
-#[derive(Clone, Copy)]
+// No `BookView`: its quote rows may be empty, and an empty row would be a quote of price 0, which no best price may be.
+#[derive(Clone, Copy, Debug, PartialEq, Eq)]
 pub struct Depth {
     pub buys: [OrderRow; ORDER_ROWS],
     pub sells: [OrderRow; ORDER_ROWS],

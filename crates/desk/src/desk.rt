@@ -23,7 +23,7 @@ use market::venues::VenueTable;
 use orders::row::OrderRow;
 use routing::ticket::Ticket;
 
-#[derive(Clone, Copy)]
+#[derive(Clone, Copy, Debug, PartialEq, Eq)]
 pub struct Desk {
     pub engine: Engine,
     pub venues: VenueTable,

@@ -53,7 +53,3 @@ module _ (e : Engine) (h : Held) where
 
   pub outstanding_law : Outstanding e h (outstanding_of e h)
   outstanding_law = answer_by (sizes_fit h) refl
-
--- tables of the right sizes have 544 tickets, so no more are in use
-pub tickets_few : (e : Engine) (h : Held) → true ≡ sizes_fit h → length (tickets_in e h) ≤ 544
-tickets_few e h k = omega (arith, (sizes h (sym k)).tickets, length-take e.used.tickets h.tickets)

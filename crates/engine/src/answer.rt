@@ -28,7 +28,7 @@ pub enum Answer {
     },
 }
 
-// What a close answers in numbers, as a call from C takes it; price, count and tickets are 0 unless the cause is 0.
+// What a close answers in numbers, for a venue that keeps answers so; price, count and tickets are 0 unless the cause is 0.
 #[derive(Clone, Copy, Debug, Default, PartialEq, Eq)]
 pub struct Closing {
     pub cause: u32,
@@ -38,7 +38,7 @@ pub struct Closing {
 }
 
 impl Answer {
-    // The shares that a cancel, a match or an abort answers; 0 of another call, since a call from C takes a number.
+    // The shares that a cancel, a match or an abort answers; 0 of another call, for a venue that keeps answers in numbers.
     pub fn shares(self) -> u64
         ensures { result ≡ shares_in self }
     {

@@ -28,7 +28,7 @@ pub enum Call {
     },
     Close {
         time: u32,
-        // The last sale that the venue knows; 0 says that there is none, as the exported pricing takes it.
+        // The last sale that the venue knows; by the rules 0 says that there is none.
         last_sale: u32,
     },
     Report {

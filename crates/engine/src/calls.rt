@@ -35,7 +35,7 @@ impl Engine {
         }
     }
 
-    // What a call does, refused or not.
+    // What a call does, refused or not. Call, source and tables are the arguments of the public call, handed on as they are.
     fn turn<S: QuoteSource>(
         &mut self,
         call: Call,

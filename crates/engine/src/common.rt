@@ -33,7 +33,7 @@ impl Tables<'_> {
     }
 }
 
-// Where an order stands: on the buys, else on the sells.
+// Where an order stands: on the buys, else on the sells. A pair, which each caller matches on at once.
 pub(crate) fn place_in(buys: &[OrderRow], sells: &[OrderRow], number: u32) -> Option<(Side, usize)>
     ensures { result ≡ stands_at number buys.now sells.now }
 {

@@ -28,7 +28,7 @@ impl Fitted<'_> {
         buys + sells
     }
 
-    // The executable shares at a price of the side that has fewer.
+    // The executable shares at a price of the side that has fewer: of rows alone, so it is no count of a book, which has quotes.
     fn matchable(&self, price: u32) -> u64
         ensures { result ≡ executable (held_in self.now) price }
     {

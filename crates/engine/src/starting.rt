@@ -84,7 +84,7 @@ fn acceptance_fits(facts: Facts) -> bool
 }
 
 impl Engine {
-    // Whether a begin may come.
+    // Whether a begin may come. Its time, order and facts are what the call brings; they go on together here and to `begin` only.
     pub(crate) fn may_begin<S: QuoteSource>(
         &self,
         source: &S,

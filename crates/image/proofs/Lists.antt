@@ -1,10 +1,9 @@
 -- Lists made from a function of the place: the item at a place, and the steps of loops over them.
-use Rattle.std.proofs.Common.{◌≡◌, ℕ, ◌+◌, ◌<◌, ◌≤◌, Bool, List, [], ◌∷◌, map, length, get_or, drop, Some, None, refl, inl, inr, ◌&&◌, ap, ◌∙◌, arith}
-use Rattle.std.specs.List.{slice_get, range_with_len, list_all}
+use Rattle.std.proofs.Common.{◌≡◌, ℕ, ◌+◌, ◌<◌, List, [], ◌∷◌, map, length, get_or, drop, Some, None, inl, inr, ap, ◌∙◌, arith}
+use Rattle.std.specs.List.{slice_get, range_with_len}
 use Rattle.std.proofs.lemmas.List.{at_drop_more, drop_all}
-use Rattle.std.proofs.lemmas.Option.{slice_get-get_or, slice_get_past, slice_get_within, slice_get_cases}
+use Rattle.std.proofs.lemmas.Option.{slice_get-get_or, slice_get_within, slice_get_cases}
 use Rattle.std.proofs.lemmas.List.FromFn.{length-map-range_with_len, get_or-map-range_with_len}
-use Rattle.market.specs.Fits.{all_by}
 use Rattle.pricing.specs.declared.level.Level.{Level}
 use Rattle.image.specs.Entries.{level_at, quote_at, length_in, levels_in, quotes_in}
 
@@ -13,17 +12,6 @@ module _ {X : Type 0} (f : ℕ → X) (n i : ℕ) where
   nth_counted h =
       let e = length-map-range_with_len f 0 n in
       slice_get-get_or (map f (range_with_len 0 n)) i (f i) (omega arith) ∙ ap Some (get_or-map-range_with_len f 0 n i i (f i) h (omega arith))
-
-  pub nth_counted_past : n ≤ i → slice_get (map f (range_with_len 0 n)) i ≡ None
-  nth_counted_past h =
-      let e = length-map-range_with_len f 0 n in
-      slice_get_past (map f (range_with_len 0 n)) i (omega arith)
-
-  -- a function of what is left, one item on
-  pub at_counted_more : {Y : Type 0} (F : List X → Y) → i < n → F (drop i (map f (range_with_len 0 n))) ≡ F (f i ∷ drop (i + 1) (map f (range_with_len 0 n)))
-  at_counted_more F h =
-      let e = length-map-range_with_len f 0 n in
-      at_drop_more F (map f (range_with_len 0 n)) i (f i) (omega arith) ∙ ap (λ y. F (y ∷ drop (i + 1) (map f (range_with_len 0 n)))) (get_or-map-range_with_len f 0 n i i (f i) h (omega arith))
 
 -- how many levels two parts hold
 pub levels_len : (ps ss : List ℕ) → length (levels_in ps ss) ≡ length_in ps ss
@@ -54,7 +42,3 @@ left_none xs i e =
       | inl there ↦ absurd (let z : ◌≡◌ {A = ℕ} 0 1 = (let t = there.2 in cc) in omega arith)
       | inr past ↦ drop_all i xs past.0
     ]
-
-pub all_by_is : {X : Type 0} (p : X → Bool) (xs : List X) → list_all p xs ≡ all_by p xs
-all_by_is p [] = refl
-all_by_is p (x ∷ xs) = ap (λ b. p x && b) (all_by_is p xs)

@@ -37,7 +37,7 @@ fn fits(level: Level) -> bool
 }
 
 // The image's format puts all prices before all shares, so an entry's two words lie in two places.
-#[derive(Clone, Copy)]
+#[derive(Clone, Copy, Debug, PartialEq, Eq)]
 pub struct Entries<'a> {
     pub(crate) prices: &'a [u8],
     pub(crate) shares: &'a [u8],
@@ -89,7 +89,8 @@ impl<'a> Entries<'a> {
         }
     }
 
-    // The shares that can trade at a price: `executable` of slices in the words of an iterator.
+    // The shares that can trade at a price: `executable` of slices in the words of an iterator, here and in `next_above`. One
+    // function over any iterator of levels would have to say what it yields, in more lines than these chains have.
     pub fn executable(&self, side: Side, price: u32) -> u64
         ensures is { result ≡ executable_at side price (levels_of self.now) }
         ensures quoted { result ≡ executable_at side price (levels (quotes_of self.now)) }
@@ -119,7 +120,7 @@ impl<'a> Entries<'a> {
 }
 
 // The entries of a list from a place on: bytes are read by place.
-#[derive(Clone, Copy)]
+#[derive(Clone, Copy, Debug, PartialEq, Eq)]
 pub struct Levels<'a> {
     entries: Entries<'a>,
     place: usize,

@@ -13,7 +13,7 @@ use market::refusal::Refusal;
 const HEADER: usize = 16;
 
 // How many entries each list of an image has.
-#[derive(Clone, Copy)]
+#[derive(Clone, Copy, Debug, PartialEq, Eq)]
 struct Sizes {
     buys: usize,
     sells: usize,
@@ -21,11 +21,13 @@ struct Sizes {
     offers: usize,
 }
 
-impl Sizes {
-    // The sizes of bytes that have the layout of an image: read off its first words, as the book is below.
-    fn read(bytes: &[u8]) -> Result<Sizes, Refusal>
-        ensures { MatchResult result (λ z. (is_image bytes.now ≡ true) × Sized bytes.now z.buys z.sells z.bids z.offers) (λ e. (is_image bytes.now ≡ false) × (e ≡ ImageLayout)) }
-    {
+// The sizes of bytes that have the layout of an image.
+impl TryFrom<&[u8]> for Sizes {
+    type Error = Refusal;
+
+    ghost try_from_gives = { λ bytes result. MatchResult result (λ z. (is_image bytes.now ≡ true) × Sized bytes.now z.buys z.sells z.bids z.offers) (λ e. (is_image bytes.now ≡ false) × (e ≡ ImageLayout)) };
+
+    fn try_from(bytes: &[u8]) -> Result<Sizes, Refusal> {
         if bytes.len() < HEADER {
             return Err(Refusal::ImageLayout);
         }
@@ -65,7 +67,7 @@ fn part<'a>(prices: &'a [u8], shares: &'a [u8], from: usize, count: usize) -> En
 }
 
 // A reader over the bytes: it holds the parts of the two arrays that belong to each list.
-#[derive(Clone, Copy)]
+#[derive(Clone, Copy, Debug, PartialEq, Eq)]
 pub struct BookImage<'a> {
     pub(crate) buys: Entries<'a>,
     pub(crate) sells: Entries<'a>,
@@ -79,7 +81,7 @@ impl<'a> BookImage<'a> {
     pub fn read(bytes: &'a [u8]) -> Result<BookImage<'a>, Refusal>
         ensures { MatchResult result (λ image. (is_image bytes.now ≡ true) × (book_of image ≡ image_book bytes.now)) (λ e. (is_image bytes.now ≡ false) × (e ≡ ImageLayout)) }
     {
-        let sizes = Sizes::read(bytes)?;
+        let sizes = Sizes::try_from(bytes)?;
         let orders = sizes.buys + sizes.sells;
         let entries = orders + sizes.bids + sizes.offers;
         let prices = &bytes[HEADER..HEADER + 4 * entries];

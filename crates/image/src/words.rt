@@ -2,7 +2,8 @@
 ghost use Rattle.std.specs.Prelude.{◌≡◌, ◌+◌, ◌*◌, ◌≤◌, length};
 ghost use Rattle.image.specs.Words.{word};
 
-// The word at a place, counted in words. The four bytes are copied at once, so that loops over words are fast.
+// The word at a place, counted in words. The four bytes are there, so they are copied: as a conversion from a slice, which can
+// fail, they would come with an error to rule out.
 pub(crate) fn word_at(bytes: &[u8], place: usize) -> u32
     requires { 4 * place + 4 ≤ length bytes.now }
     ensures { result ≡ word bytes.now (4 * place) }

@@ -1,4 +1,5 @@
--- That prices and quotes are in a rank order.
+-- That prices and quotes are in a rank order. These are proofs, which nobody has to believe; they stand here since an
+-- impl cannot name what stands in the proofs of its own crate.
 use Rattle.std.specs.Prelude.{◌≡◌, ℕ, Bool, true, false}
 use Rattle.std.proofs.Common.{arith}
 use Rattle.std.proofs.lemmas.Bool.Decides.{nat_tests}

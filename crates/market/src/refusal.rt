@@ -2,10 +2,10 @@
 ghost use Rattle.std.specs.Prelude.{◌≡◌};
 ghost use Rattle.market.specs.Refusals.{refusal_number, refusal_words};
 
-use std::error::Error;
-use std::fmt;
+use thiserror::Error;
 
-#[derive(Clone, Copy, Debug, PartialEq, Eq, Hash)]
+#[derive(Clone, Copy, Debug, PartialEq, Eq, Hash, Error)]
+#[error("{}", self.words())]
 pub enum Refusal {
     // The tables have not the sizes that the engine works on.
     TableSizes = 1,
@@ -66,7 +66,7 @@ pub enum Refusal {
 }
 
 impl Refusal {
-    // What it says, in words.
+    // What it says, in words: a function of its own, since what a Display prints has no contract.
     pub fn words(self) -> &'static str
         ensures { result.now ≡ refusal_words self }
     {
@@ -116,12 +116,3 @@ impl From<Refusal> for u32 {
         refusal as u32
     }
 }
-
-// A refusal prints its words; a cause does the same, in as few lines as a trait for both would take.
-impl fmt::Display for Refusal {
-    fn fmt<W: fmt::Write>(&self, f: &mut fmt::Formatter<W>) -> fmt::Result {
-        f.write_str(self.words())
-    }
-}
-
-impl Error for Refusal {}

@@ -2,8 +2,7 @@
 ghost use Rattle.std.specs.Prelude.{◌≡◌, ok_or};
 ghost use Rattle.market.specs.Sides.{side_number, side_numbered, unknown_side};
 
-use std::error::Error;
-use std::fmt;
+use thiserror::Error;
 
 #[derive(Clone, Copy, Debug, PartialEq, Eq, Hash)]
 pub enum Side {
@@ -12,7 +11,8 @@ pub enum Side {
 }
 
 // A number that is no side's.
-#[derive(Clone, Copy, Debug, PartialEq, Eq, Hash)]
+#[derive(Clone, Copy, Debug, PartialEq, Eq, Hash, Error)]
+#[error("no side has the number {0}")]
 pub struct UnknownSide(pub u32);
 
 impl From<Side> for u32 {
@@ -36,12 +36,3 @@ impl TryFrom<u32> for Side {
         }
     }
 }
-
-// Written out, as for each error with a text.
-impl fmt::Display for UnknownSide {
-    fn fmt<W: fmt::Write>(&self, f: &mut fmt::Formatter<W>) -> fmt::Result {
-        write!(f, "no side has the number {}", self.0)
-    }
-}
-
-impl Error for UnknownSide {}

@@ -1,4 +1,4 @@
-// Laws of the rows that hold whatever they hold.
+// Laws of the rows that hold whatever they hold. Contracts stand on functions: what these answer says nothing.
 ghost use Rattle.orders.specs.Laws.{ClassesNumbered, EnteredWhole, StaysWhole, InOrder, HereGains, OutGains};
 
 pub fn order_laws() -> u8

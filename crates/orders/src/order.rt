@@ -3,8 +3,7 @@ ghost use Rattle.std.specs.Prelude.{◌≡◌, is_some};
 
 use market::price::entry_fits;
 use market::side::Side;
-use std::error::Error;
-use std::fmt;
+use thiserror::Error;
 
 // A member can enter any numbers, and each that is wrong is refused by its own refusal.
 #[repr(C)]
@@ -26,7 +25,8 @@ pub enum Class {
 }
 
 // A number that no class has.
-#[derive(Clone, Copy, Debug, PartialEq, Eq, Hash)]
+#[derive(Clone, Copy, Debug, PartialEq, Eq, Hash, Error)]
+#[error("no class of orders has number {0}")]
 pub struct UnknownClass(pub u32);
 
 impl TryFrom<u32> for Class {
@@ -56,15 +56,6 @@ impl From<Class> for u32 {
         class as u32
     }
 }
-
-// Written out, as for each error with a text.
-impl fmt::Display for UnknownClass {
-    fn fmt<W: fmt::Write>(&self, f: &mut fmt::Formatter<W>) -> fmt::Result {
-        write!(f, "no class of orders has number {}", self.0)
-    }
-}
-
-impl Error for UnknownClass {}
 
 impl Order {
     ghost use Rattle.orders.specs.Orders.{well_formed, typed};

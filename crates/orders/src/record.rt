@@ -3,9 +3,8 @@ ghost use Rattle.std.specs.Prelude.{◌≡◌, true, min};
 ghost use Rattle.orders.specs.Rows.{is_whole, with_cancelled, with_settled, sent};
 
 use crate::row::OrderRow;
-use std::error::Error;
-use std::fmt;
 use std::marker::Model;
+use thiserror::Error;
 
 #[derive(Clone, Copy, Debug, PartialEq, Eq)]
 pub struct OrderRecord {
@@ -26,10 +25,12 @@ impl Model for OrderRecord {
 }
 
 // A row whose counts do not add up.
-#[derive(Clone, Copy, Debug, PartialEq, Eq, Hash)]
+#[derive(Clone, Copy, Debug, PartialEq, Eq, Hash, Error)]
+#[error("the counts of order {} do not add up", .0.number)]
 pub struct NotWhole(pub OrderRow);
 
-// Where shares of an order go: they are filled here, or sent out to another venue.
+// Where shares of an order go: they are filled here, or sent out to another venue. A choice of two, and no closure that adds to
+// a count: the definitions speak of it (`sent`).
 #[derive(Clone, Copy, Debug, PartialEq, Eq, Hash)]
 pub enum Destination {
     Here,
@@ -65,6 +66,8 @@ impl From<OrderRecord> for OrderRow {
     }
 }
 
+// That the row stays whole is the model's invariant, and is said again by each change: what callers hold of a record in their
+// clauses is its row, which any row can be.
 impl OrderRecord {
     // Cancels the rest, and answers how many shares that is.
     pub fn cancel_rest(&mut self) -> u32
@@ -110,12 +113,3 @@ impl OrderRecord {
         }
     }
 }
-
-// Written out, as for each error with a text.
-impl fmt::Display for NotWhole {
-    fn fmt<W: fmt::Write>(&self, f: &mut fmt::Formatter<W>) -> fmt::Result {
-        write!(f, "the counts of order {} do not add up", self.0.number)
-    }
-}
-
-impl Error for NotWhole {}

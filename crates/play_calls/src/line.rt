@@ -2,23 +2,14 @@
 use engine::call::{Call, Facts};
 use engine::stage::Issue;
 use orders::order::Order;
-use std::error::Error;
-use std::fmt;
 use std::num::ParseIntError;
 use std::str::{FromStr, Split};
+use thiserror::Error;
 
 // A text that is no line of the input.
-#[derive(Clone, Copy, Debug)]
+#[derive(Clone, Copy, Debug, PartialEq, Eq, Error)]
+#[error("play_calls: a line is none that it reads")]
 pub struct NoLine;
-
-// Written out: one text for one error.
-impl fmt::Display for NoLine {
-    fn fmt<W: fmt::Write>(&self, f: &mut fmt::Formatter<W>) -> fmt::Result {
-        write!(f, "play_calls: a line is none that it reads")
-    }
-}
-
-impl Error for NoLine {}
 
 impl From<ParseIntError> for NoLine {
     fn from(_e: ParseIntError) -> NoLine {
@@ -27,7 +18,7 @@ impl From<ParseIntError> for NoLine {
 }
 
 // What a line asks for. A venue and a side may be any numbers: the venue table refuses those that are none.
-#[derive(Clone, Copy)]
+#[derive(Clone, Copy, Debug, PartialEq, Eq)]
 pub enum Turn {
     Quote {
         venue: u32,
@@ -184,9 +175,9 @@ impl FromStr for Turn {
     fn from_str(text: &str) -> Result<Turn, NoLine> {
         let mut words = Words::new(text);
         let turn = words.turn()?;
-        match words.word() {
-            Ok(_) => Err(NoLine),
-            Err(_) => Ok(turn),
+        if words.word().is_ok() {
+            return Err(NoLine);
         }
+        Ok(turn)
     }
 }

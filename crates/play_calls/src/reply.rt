@@ -2,7 +2,7 @@
 use engine::answer::Answer;
 use std::fmt;
 
-#[derive(Clone, Copy)]
+#[derive(Clone, Copy, Debug, PartialEq, Eq)]
 pub enum Reply {
     Done,
     Called(Answer),

@@ -29,7 +29,7 @@ pub const FACTS: Facts = Facts {
 };
 
 // A quote of a venue.
-#[derive(Clone, Copy)]
+#[derive(Clone, Copy, Debug, PartialEq, Eq)]
 pub struct Quoted {
     pub venue: u32,
     pub side: Side,

@@ -1,10 +1,13 @@
 -- The prices at which shares stand in a book, one after another.
-use Rattle.std.specs.Prelude.{◌≡◌, ℕ, ◌<◌, Option, IfSome}
+use Rattle.std.specs.Prelude.{◌≡◌, ℕ, ◌<◌, ◌≤◌, ◌⊎◌, Option}
+use Rattle.std.specs.Option.{MatchOption}
 use Rattle.market.specs.Limits.{highest_price}
 use Rattle.pricing.specs.Ranges.{next_price}
 use Rattle.image.specs.Held.{book_of}
 use Rattle.price_image.specs.declared.prices.Prices.{Prices}
 
--- a step gives the next price of the book, one below the highest there is, and goes on above it
+-- a step gives the next price of the book, one below the highest there is, and goes on above it; it ends where there is none
 abbrev pub StepsUp : Prices → Option ℕ → Prices → Type 0
-StepsUp before given after = IfSome given (λ price. (price ≡ next_price (book_of before.book) before.above) × (price < highest_price) × (after.book ≡ before.book) × (after.above ≡ price))
+StepsUp before given after =
+    let next = next_price (book_of before.book) before.above in
+    MatchOption given ((highest_price ≤ next) ⊎ (next ≤ before.above)) (λ price. (price ≡ next) × (price < highest_price) × (after.book ≡ before.book) × (after.above ≡ price))

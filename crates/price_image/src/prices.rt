@@ -8,7 +8,7 @@ use market::limits::HIGHEST_PRICE;
 use pricing::view::BookView;
 
 // The prices above one, the lowest first, up to the highest price there is, which is not among them.
-#[derive(Clone, Copy)]
+#[derive(Clone, Copy, Debug, PartialEq, Eq)]
 pub struct Prices<'a> {
     book: BookImage<'a>,
     above: u32,

@@ -35,10 +35,11 @@ impl Request {
                 last_sale: Some(SAMPLE_SALE),
             });
         };
-        let last_sale = match words.next() {
-            Some(word) => Some(parse_sale(word.as_str())?).filter(|sale| *sale != 0),
-            None => None,
-        };
+        let last_sale = words
+            .next()
+            .map(|word| parse_sale(word.as_str()))
+            .transpose()?
+            .filter(|sale| *sale != 0);
         if words.next().is_some() {
             return Err(anyhow!("usage: price_image [IMAGE [LAST-SALE]]"));
         }

@@ -8,10 +8,6 @@ use Rattle.market.specs.Prices.{Permitted}
 use Rattle.pricing.specs.declared.level.Level.{Level}
 use Rattle.pricing.specs.Books.{at_or_above, at_or_below, above, below, Standing}
 
--- a sum is no less where each part is no less
-pub sum_by_mono : {X : Type 0} (f g : X → ℕ) → ((x : X) → f x ≤ g x) → (xs : List X) → sum_by f xs ≤ sum_by g xs
-sum_by_mono f g h xs = sum_by-le-sum_by f g xs h
-
 -- a sum is the same where each part is, of elements that P holds of
 pub sum_by_same : {X : Type 0} (P : X → Type 0) (f g : X → ℕ) → ((x : X) → P x → f x ≡ g x) → (xs : List X) → AllByRecursion P xs → sum_by f xs ≡ sum_by g xs
 sum_by_same P f g h [] a = refl

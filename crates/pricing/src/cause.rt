@@ -3,10 +3,10 @@ ghost use Rattle.std.specs.Prelude.{◌≡◌};
 ghost use Rattle.pricing.specs.Closing.{cause_number};
 ghost use Rattle.pricing.specs.Causes.{cause_words};
 
-use std::error::Error;
-use std::fmt;
+use thiserror::Error;
 
-#[derive(Clone, Copy, Debug, PartialEq, Eq)]
+#[derive(Clone, Copy, Debug, PartialEq, Eq, Hash, Error)]
+#[error("{}", self.words())]
 pub enum Cause {
     NothingToTrade = 1,
     LockedOrCrossed = 2,
@@ -15,6 +15,7 @@ pub enum Cause {
 }
 
 impl Cause {
+    // What it says, in words: a function of its own, since what a Display prints has no contract.
     pub fn words(self) -> &'static str
         ensures { result.now ≡ cause_words self }
     {
@@ -36,11 +37,3 @@ impl From<Cause> for u32 {
         cause as u32
     }
 }
-
-impl fmt::Display for Cause {
-    fn fmt<W: fmt::Write>(&self, f: &mut fmt::Formatter<W>) -> fmt::Result {
-        f.write_str(self.words())
-    }
-}
-
-impl Error for Cause {}

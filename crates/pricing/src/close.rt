@@ -65,6 +65,9 @@ fn settle<B: BookView>(view: &B, halted: bool, last_sale: u32) -> Result<Snap, C
     snap(view, reference_price(last_sale, bid, offer))
 }
 
+// That a book is of permitted prices is asked before, by those who bring it, and it is a premise of clauses here and no
+// invariant of a view: without it the answer is free, and still comes.
+//
 // The outcome of a close on a book of permitted prices: the SNAP Price and its count, or the cause why
 // there is none. On any other book it answers too, but its answer is free.
 pub fn close_price<B: BookView>(view: &B, halted: bool, last_sale: u32) -> Result<Snap, Cause>

@@ -25,7 +25,8 @@ pub(crate) fn price_at(i: u32) -> u32
     }
 }
 
-// The neighbouring permitted prices that hold a price between them: one at or below it, the other above.
+// The neighbouring permitted prices that hold a price between them: one at or below it, the other above. A pair, which its only
+// caller takes apart at once.
 fn neighbours(price: u32) -> (u32, u32)
     requires { (2 ≤ price) × (price < 4000000000) }
     ensures { Around price result.0 result.1 }

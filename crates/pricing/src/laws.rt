@@ -1,4 +1,4 @@
-// Laws of the price that hold of every book.
+// Laws of the price that hold of every book. Contracts stand on functions: what these answer says nothing.
 ghost use Rattle.pricing.specs.Laws.{ClearingCountsMost, AlwaysACandidate, OnePrice, PriceClears, NothingExactly, OneOutcome, MidpointWhole};
 
 pub fn price_laws() -> u8

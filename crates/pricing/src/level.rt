@@ -14,7 +14,7 @@ pub struct Level {
 }
 
 impl Level {
-    // Its shares, where they can trade at `price`, else none.
+    // Its shares, where they can trade at `price`, else 0: what is not reached adds nothing to a sum.
     pub fn executable(self, side: Side, price: u32) -> u32
         ensures { result ≡ executable side price self }
     {
@@ -25,7 +25,7 @@ impl Level {
         if reached { self.shares } else { 0 }
     }
 
-    // Its price, where it has shares above `price`, else the highest price there is.
+    // Its price, where it has shares above `price`, else the highest price there is, with which the least of many begins.
     pub fn standing_above(self, price: u32) -> u32
         ensures { result ≡ standing price self }
     {
@@ -66,7 +66,8 @@ impl AsLevel for Quote {
     }
 }
 
-// The shares that can trade at a price, of at most 512 entries.
+// The shares that can trade at a price, of at most 512 entries, so that the sum fits: what callers lend has any length, and
+// is cut before this.
 fn executable_of<T: AsLevel>(side: Side, entries: &[T], price: u32) -> u64
     requires { length entries.now ≤ 512 }
     ensures is { result ≡ executable_at side price (map T.level entries.now) }

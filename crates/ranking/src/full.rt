@@ -1,15 +1,6 @@
 // A table with no free row refuses an entry.
-use std::error::Error;
-use std::fmt;
+use thiserror::Error;
 
-#[derive(Clone, Copy, Debug, Default, PartialEq, Eq, Hash)]
+#[derive(Clone, Copy, Debug, Default, PartialEq, Eq, Hash, Error)]
+#[error("no row is free")]
 pub struct Full;
-
-// Written out, as for each error with a text: thiserror would be one more crate below all for a few lines.
-impl fmt::Display for Full {
-    fn fmt<W: fmt::Write>(&self, f: &mut fmt::Formatter<W>) -> fmt::Result {
-        f.write_str("no row is free")
-    }
-}
-
-impl Error for Full {}

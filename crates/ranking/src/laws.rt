@@ -1,4 +1,4 @@
-// What holds of every ranking.
+// What holds of every ranking. Contracts stand on functions: what these answer says nothing.
 ghost use Rattle.ranking.specs.Laws.{Laws};
 
 use crate::rank::Ranking;

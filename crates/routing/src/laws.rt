@@ -1,4 +1,5 @@
-// Laws of shares that are handed out in rank order, and of what is owed.
+// Laws of shares that are handed out in rank order, and of what is owed. Contracts stand on functions: what these
+// answer says nothing.
 ghost use Rattle.routing.specs.Laws.{HandedOut, AheadFirst, WalkAllots, RowsHanded, NoneKeptAhead, OrderTied, QuoteTied, TiesFew, OneSideOwes, OwedWithin};
 
 use orders::row::OrderRow;

@@ -47,7 +47,7 @@ pub fn write_tickets(rows: &[OrderRow], quotes: &[Quote], routed: u64, out: &mut
         let (order, quote) = (*order, *quote);
         let rest = order.rest - filled;
         let shares = quote.shares - taken;
-        // A ticket in each branch: with one before them the walk takes a third longer.
+        // A ticket in each branch: with one before them the walk takes 1.3 to 1.6 times as long.
         if rest < shares {
             let tied = left.min(u64::from(rest));
             count = put_ticket(out, count, ticket_of(order, quote, tied as u32));

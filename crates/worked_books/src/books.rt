@@ -7,7 +7,7 @@ ghost use Rattle.worked_books.specs.Table.{books, worked, BooksClose, BooksRoute
 use pricing::level::Level;
 use routing::ticket::Ticket;
 
-#[derive(Clone, Copy)]
+#[derive(Clone, Copy, Debug, PartialEq, Eq)]
 pub struct Worked {
     pub buy: Option<Level>,
     pub sell: Option<Level>,

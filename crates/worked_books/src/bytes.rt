@@ -23,6 +23,7 @@ pub fn image_of(heap: Global, worked: Worked) -> Result<Vec<u8>, AllocError>
     for list in lists.iter() {
         push_word(&mut bytes, u32::from(list.is_some()))?;
     }
+    // No `flatten`: a loop over one needs an invariant on the state within it.
     for list in lists.iter() {
         if let Some(Level { price, .. }) = list {
             push_word(&mut bytes, *price)?;
@@ -37,14 +38,14 @@ pub fn image_of(heap: Global, worked: Worked) -> Result<Vec<u8>, AllocError>
 }
 
 // An answer as the exported function writes it for C: the cause 0 says that there is a price.
-#[derive(Clone, Copy)]
+#[derive(Clone, Copy, Debug, PartialEq, Eq)]
 pub struct Priced {
     pub price: u32,
     pub cause: u32,
     pub count: u64,
 }
 
-// The bytes of an answer from a place on.
+// The bytes of an answer from a place on: they are there, so they are copied, and no conversion can fail.
 fn part<const N: usize>(out: &[u8; 16], from: usize) -> [u8; N]
     requires { from + N ≤ 16 }
     ensures { result ≡ take N (drop from out.now) }

@@ -2,19 +2,11 @@ use Rattle.std.proofs.Common.{sym, subst, arith}
 use Rattle.pricing.specs.Candidates.{Chosen}
 use Rattle.pricing.specs.Ranges.{Within}
 use Rattle.pricing.proofs.Rows.{lo_le_hi}
-use Rattle.pricing.proofs.Choosing.{only_chosen}
-use Rattle.pricing.proofs.Outcomes.{nothing, something, single, snapped, undecided}
+use Rattle.pricing.proofs.Outcomes.{nothing, something, snapped, undecided}
 use Rattle.pricing.proofs.close.snap.Goals as goal
 
 pub returns-then-count-eq0 : goal.returns-then-count-eq0
 returns-then-count-eq0 g c s = nothing _ s _ (c.lowest-low.ensures.lowest s) (omega (arith, c.count_at-count.ensures))
-
-pub returns-then-low-high : goal.returns-then-low-high
-returns-then-low-high g c s =
-    let l = c.lowest-low.ensures.lowest s in
-    let h = c.highest-high.ensures.highest s l in
-    let chosen = only_chosen (Within c.lowest-low.result c.highest-high.result) c.args.reference c.lowest-low.result (single _ s _ l _ h c.if-low-high.true) in
-    snapped _ s _ l _ h c.args.reference _ _ c.count_at-count.ensures c.if-count-eq0.false chosen
 
 pub returns : goal.returns
 returns g c s =

@@ -1,9 +1,7 @@
-use Rattle.std.proofs.Common.{◌≡◌, ◌+◌, ◌<◌, ◌≤◌, sym, subst, inl, inr, arith}
+use Rattle.std.proofs.Common.{◌<◌, ◌≤◌, subst, arith}
 use Rattle.market.proofs.Grid.{grid}
 use Rattle.pricing.specs.Books.{wanted_above, supply_at}
-use Rattle.pricing.specs.Ranges.{price_at, Lowest}
 use Rattle.pricing.proofs.Sides.{none_wanted, buyers_pass, buyers_fail}
-use Rattle.pricing.proofs.Steps.{price_max, permitted_at, no_between}
 use Rattle.pricing.proofs.range.lowest.Goals as goal
 
 pub loop-low-init : goal.loop-low-init
@@ -21,20 +19,3 @@ loop-low-preserved g c =
     let b = g.B.BookView.book c.args.view.now in
     let here = buyers_fail b c.price_at-price.result (omega (arith, c.demand.ensures, c.supply.ensures, c.if-demand-supply.false)) in
     (omega arith, omega arith, c.loop-low.invariant.2, λ s q ok h. subst (λ x. x < q) c.price_at-price.ensures (here q h))
-
-pub returns : goal.returns
-returns g c =
-    let b = g.B.BookView.book c.args.view.now in
-    let high = c.loop-low.high in
-    let e : c.loop-low.low + 1 ≡ high = omega arith in
-    record {
-      inside = (omega (arith, c.price_at.ensures, price_max high), omega (arith, c.price_at.ensures, price_max high));
-      lowest = λ s. subst (Lowest b) (sym c.price_at.ensures) (record {
-        permitted = permitted_at high (omega arith) (omega arith);
-        buyers = c.loop-low.invariant.2 s;
-        bottom = λ q ok h. elim (no_between c.loop-low.low q ok) [
-          | inl le ↦ absurd (omega (arith, c.loop-low.invariant.3 s q ok h))
-          | inr ge ↦ subst (λ i. price_at i ≤ q) e ge
-        ];
-      });
-    }

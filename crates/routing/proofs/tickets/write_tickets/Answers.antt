@@ -8,12 +8,6 @@ use Rattle.routing.proofs.tickets.write_tickets.Goals as goal
 pub loop-waiting-init : goal.loop-waiting-init
 loop-waiting-init c = at_start _ _ _ _
 
-pub overflow_add-taken : goal.overflow_add-taken
-overflow_add-taken c = let w = c.loop-waiting.invariant.taken_within in omega arith
-
-pub overflow_add-filled : goal.overflow_add-filled
-overflow_add-filled c = let w = c.loop-waiting.invariant.filled_within in omega arith
-
 pub loop-waiting-preserved-then-rest-shares : goal.loop-waiting-preserved-then-rest-shares
 loop-waiting-preserved-then-rest-shares c =
     let l = c.loop-waiting in

@@ -6,25 +6,10 @@ use Rattle.engine.specs.Effects.{granted}
 use Rattle.engine.proofs.Turning.{yes_to, granted_by}
 use Rattle.engine.proofs.state.Engine.grant.Goals as goal
 
-pub begin-requires-clause-time : goal.begin-requires-clause-time
-begin-requires-clause-time g c =
-    let k = c.in-Begin in
-    (yes_to c.args.self.now (g.S.QuoteSource.meaning c.args.source.now) (held_in c.args.tables.now) c.args.call (Begin k.time k.order k.facts) k.is c.requires).1.1.0
-
 pub begin-requires-clause-acceptance : goal.begin-requires-clause-acceptance
 begin-requires-clause-acceptance g c =
     let k = c.in-Begin in
     (yes_to c.args.self.now (g.S.QuoteSource.meaning c.args.source.now) (held_in c.args.tables.now) c.args.call (Begin k.time k.order k.facts) k.is c.requires).1.1.1.1.1.1.1.1.1.1.1.1.0
-
-pub enter-requires-clause-room : goal.enter-requires-clause-room
-enter-requires-clause-room g c =
-    let k = c.in-Enter in
-    (yes_to c.args.self.now (g.S.QuoteSource.meaning c.args.source.now) (held_in c.args.tables.now) c.args.call (Enter k.order) k.is c.requires).1.1.1.1.0
-
-pub close-requires-clause-fit : goal.close-requires-clause-fit
-close-requires-clause-fit g c =
-    let k = c.in-Close in
-    (yes_to c.args.self.now (g.S.QuoteSource.meaning c.args.source.now) (held_in c.args.tables.now) c.args.call (Close k.time k.last_sale) k.is c.requires).1.1.1.1.0
 
 pub returns-in-Begin-clause-called : goal.returns-in-Begin-clause-called
 returns-in-Begin-clause-called g c =
@@ -65,8 +50,3 @@ pub begin-requires-clause-formed : goal.begin-requires-clause-formed
 begin-requires-clause-formed g c =
     let k = c.in-Begin in
     (yes_to c.args.self.now (g.S.QuoteSource.meaning c.args.source.now) (held_in c.args.tables.now) c.args.call (Begin k.time k.order k.facts) k.is c.requires).1.1.1.1.1.1.0
-
-pub enter-requires-clause-formed : goal.enter-requires-clause-formed
-enter-requires-clause-formed g c =
-    let k = c.in-Enter in
-    (yes_to c.args.self.now (g.S.QuoteSource.meaning c.args.source.now) (held_in c.args.tables.now) c.args.call (Enter k.order) k.is c.requires).1.1.0

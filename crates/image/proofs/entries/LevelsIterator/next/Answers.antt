@@ -15,8 +15,3 @@ overflow_add-self c =
 
 pub returns-clause-steps : goal.returns-clause-steps
 returns-clause-steps c = left_more (levels_of c.args.self.now.entries) c.args.self.now.place c.in_ok-level.level (sym c.get.ensures ∙ c.in_ok-level.was)
-
-pub returns-clause-goes : goal.returns-clause-goes
-returns-clause-goes c =
-    let first = left_more (levels_of c.args.self.now.entries) c.args.self.now.place c.in_ok-level.level (sym c.get.ensures ∙ c.in_ok-level.was) in
-    grind (arith, first)

@@ -1,7 +1,6 @@
 use Rattle.std.proofs.Common.{◌≡◌, ◌+◌, ◌<◌, rules}
 use Rattle.market.specs.Markets.{quotes_on}
-use Rattle.market.specs.Quotes.{quotes_left}
-use Rattle.market.proofs.Places.{left_first, less_left}
+use Rattle.market.proofs.Places.{left_first}
 use Rattle.market.proofs.quotes.QuotesIterator.next.Goals as goal
 
 pub returns-clause-steps : goal.returns-clause-steps
@@ -14,6 +13,3 @@ returns-clause-steps g c =
     let same : t.end ≡ s.places.end = search rules in
     let within : s.places.start < s.places.end = search rules in
     rw (more, same, c.quote.ensures, from) (left_first xs s.places.start s.places.end within)
-
-pub returns-clause-goes : goal.returns-clause-goes
-returns-clause-goes g c = less_left (quotes_left g.S.QuoteSource.meaning) c.args.self.now _ c.quote.result (returns-clause-steps g c)
