@@ -1,5 +1,5 @@
 -- The first ticket that is not reported.
-use Rattle.std.proofs.Common.{◌≡◌, ℕ, ◌+◌, ◌-◌, ◌<◌, ◌≤◌, Bool, true, false, cond, not, ltb, leb, List, length, get_or, Some, None, Ok, Err, sym, refl, ap, ◌∙◌, arith, length-take}
+use Rattle.std.proofs.Common.{◌≡◌, ℕ, ◌+◌, ◌-◌, ◌<◌, ◌≤◌, Bool, true, false, cond, not, ltb, leb, List, length, get_or, Some, None, Ok, Err, refl, ap, ◌∙◌, arith}
 use Rattle.std.specs.List.{prefix_len, position_or_len, position}
 use Rattle.std.specs.Option.{option_map}
 use Rattle.std.proofs.lemmas.List.Sums.{prefix_len_passes, prefix_len_stops}
@@ -12,7 +12,6 @@ use Rattle.routing.specs.Tickets.{empty_ticket}
 use Rattle.engine.specs.declared.state.Engine.{Engine}
 use Rattle.engine.specs.States.{Held, tickets_in}
 use Rattle.engine.specs.Questions.{sizes_fit}
-use Rattle.engine.proofs.Sizes.{sizes}
 use Rattle.engine.specs.Outstanding.{first_open, outstanding_of, OpenTicket, Outstanding}
 
 -- the tickets before the first that is not reported

@@ -25,11 +25,11 @@ impl Fitted<'_> {
         ensures rows { held_in self.new ≡ emptied (held_in self.old) }
         ensures names { SameFitted self.old self.new }
     {
-        self.buys.fill(OrderRow::default());
-        self.sells.fill(OrderRow::default());
+        self.buys.fill(OrderRow::empty());
+        self.sells.fill(OrderRow::empty());
         self.bids.fill(Quote::none());
         self.offers.fill(Quote::none());
-        self.tickets.fill(Ticket::default());
+        self.tickets.fill(Ticket::empty());
     }
 }
 

@@ -4,7 +4,7 @@ ghost use Rattle.engine.specs.Minimum.{ordinary_minimum, minimum};
 
 use crate::stage::Issue;
 
-// From a price up, this many shares.
+// From a price up, this many shares. (`Level` is shares that stand at a price.)
 #[derive(Clone, Copy, Debug, PartialEq, Eq)]
 pub(crate) struct Step {
     pub(crate) price: u32,

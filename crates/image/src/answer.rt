@@ -8,7 +8,7 @@ use pricing::snap::Snap;
 // How long an answer is.
 pub const ANSWER: usize = 16;
 
-// Price, cause and count, side by side.
+// Price, cause and count, side by side: for C, so the cause is a number.
 fn put_numbers(out: &mut [u8], price: u32, cause: u32, count: u64)
     requires { length out.old ≡ 16 }
     ensures { out.new ≡ answer_bytes price cause count }

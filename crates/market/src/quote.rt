@@ -11,6 +11,7 @@ pub struct Quote {
 }
 
 impl Quote {
+    // The default has a name here, as rows and tickets have theirs: it stands for a row with nothing in it.
     pub fn none() -> Quote
         ensures { result ≡ no_quote }
     {

@@ -97,7 +97,7 @@ impl OrderRecord {
     }
 
     // A ticket of `shares` that were out comes back with `filled` of them: what is not filled is late, or rests again. The three
-    // are one report's; two functions more hand them on.
+    // are one report's; the functions of a report hand them on.
     pub fn settle(&mut self, shares: u32, filled: u32, late: bool)
         ensures row { self.new ≡ with_settled shares filled late self.old }
         ensures whole { is_whole self.new ≡ true }

@@ -47,14 +47,6 @@ pub trait AsLevel {
         ensures { result ≡ level self.now };
 }
 
-impl AsLevel for Level {
-    ghost level = { λ l. l };
-
-    fn level(&self) -> Level {
-        *self
-    }
-}
-
 impl AsLevel for Quote {
     ghost level = { quote_level };
 

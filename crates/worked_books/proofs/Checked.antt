@@ -7,7 +7,7 @@ use Rattle.pricing.specs.Books.{at_or_above, at_or_below, above, below}
 use Rattle.pricing.specs.Closing.{Outcome, Closing}
 use Rattle.image.specs.Images.{image_book}
 use Rattle.worked_books.specs.Bytes.{image_of, BooksImaged}
-use Rattle.worked_books.specs.Table.{Example, book_of, books, BooksClose, BooksRoute}
+use Rattle.worked_books.specs.Table.{Example, book_of, routed, books, BooksClose, BooksRoute}
 use Rattle.worked_books.proofs.Deciding.{is_sound, is_lowest, low_of, decided, sound_since, lowest_since, decided_right}
 
 -- the book of a row is sound, and its lowest candidate was found
@@ -56,7 +56,7 @@ same_all f g (e ∷ es) same =
 
 pub books_route : BooksRoute
 unfolding at_or_above at_or_below
-books_route = refl
+books_route = same_all (λ e. routed (book_of e.book) e.outcome) (λ e. e.sent) books refl
 
 pub books_imaged : BooksImaged
 books_imaged = same_all (λ e. image_book (image_of e.book)) (λ e. book_of e.book) books refl

@@ -42,29 +42,37 @@ routed b (Err cause) = []
 pub record Example : Type 0 where
   pub book : Worked
   pub outcome : Outcome
+  pub sent : List Ticket
 
 -- a price and its count
 abbrev snap : ℕ → ℕ → Outcome
 snap price count = Ok (record { price = price; count = count })
 
-abbrev row : Option Level → Option Level → Option Level → Option Level → ℕ → Outcome → Example
-row buy sell bid offer last outcome =
-    record { book = record { buy = buy; sell = sell; bid = bid; offer = offer; last_sale = last }; outcome = outcome }
+-- no ticket, and a ticket for shares of the buy that are sent to venue 1 at a price
+abbrev none : List Ticket
+none = []
 
--- buys, sells, bids, offers, last sale, outcome
+abbrev ticket : ℕ → ℕ → List Ticket
+ticket shares price = record { order = 1; venue = 1; price = price; shares = shares; reported = false } ∷ []
+
+abbrev row : Option Level → Option Level → Option Level → Option Level → ℕ → Outcome → List Ticket → Example
+row buy sell bid offer last outcome sent =
+    record { book = record { buy = buy; sell = sell; bid = bid; offer = offer; last_sale = last }; outcome = outcome; sent = sent }
+
+-- buys, sells, bids, offers, last sale, outcome, tickets
 abbrev pub books : List Example
 books =
-    row (at 100 200200) (at 100 200000) None None 200100 (snap 200100 100)
-    ∷ row (at 100 200200) (at 100 200000) None None 200050 (snap 200000 100)
-    ∷ row (at 100 200200) (at 100 200000) None None 300000 (snap 200200 100)
-    ∷ row (at 100 200200) (at 100 200000) (at 100 199800) (at 100 200400) 0 (snap 200100 100)
-    ∷ row (at 100 200200) (at 100 200000) None None 0 (Err NoReference)
-    ∷ row (at 100 20000) (at 100 19998) None None 19999 (snap 19999 100)
-    ∷ row (at 100 199800) (at 100 200000) None None 200000 (Err NothingToTrade)
-    ∷ row (at 100 200200) None None (at 500 200000) 0 (snap 200000 100)
-    ∷ row (at 300 200400) (at 100 200400) (at 100 199600) (at 150 200000) 0 (snap 200400 250)
-    ∷ row (at 100 200200) (at 50 200000) None None 200000 (snap 200200 50)
-    ∷ row (at 100 200200) (at 100 200000) (at 100 200000) (at 100 200000) 0 (Err LockedOrCrossed)
+    row (at 100 200200) (at 100 200000) None None 200100 (snap 200100 100) none
+    ∷ row (at 100 200200) (at 100 200000) None None 200050 (snap 200000 100) none
+    ∷ row (at 100 200200) (at 100 200000) None None 300000 (snap 200200 100) none
+    ∷ row (at 100 200200) (at 100 200000) (at 100 199800) (at 100 200400) 0 (snap 200100 100) none
+    ∷ row (at 100 200200) (at 100 200000) None None 0 (Err NoReference) none
+    ∷ row (at 100 20000) (at 100 19998) None None 19999 (snap 19999 100) none
+    ∷ row (at 100 199800) (at 100 200000) None None 200000 (Err NothingToTrade) none
+    ∷ row (at 100 200200) None None (at 500 200000) 0 (snap 200000 100) (ticket 100 200000)
+    ∷ row (at 300 200400) (at 100 200400) (at 100 199600) (at 150 200000) 0 (snap 200400 250) (ticket 150 200000)
+    ∷ row (at 100 200200) (at 50 200000) None None 200000 (snap 200200 50) none
+    ∷ row (at 100 200200) (at 100 200000) (at 100 200000) (at 100 200000) 0 (Err LockedOrCrossed) none
     ∷ []
 
 abbrev pub worked : List Worked
@@ -74,17 +82,9 @@ worked = map (λ e. e.book) books
 abbrev pub BooksClose : Type 0
 BooksClose = AllByRecursion (λ e. Closing false (book_of e.book) e.book.last_sale e.outcome) books
 
--- shares of the buy that are sent to venue 1 at a price
-abbrev bought : ℕ → ℕ → List Ticket
-bought shares price = record { order = 1; venue = 1; price = price; shares = shares; reported = false } ∷ []
-
--- the tickets of each book, by its place
-abbrev pub sent : List (List Ticket)
-sent = [] ∷ [] ∷ [] ∷ [] ∷ [] ∷ [] ∷ [] ∷ bought 100 200000 ∷ bought 150 200000 ∷ [] ∷ [] ∷ []
-
--- a close on each book has these tickets
+-- a close on each book has the tickets of its row
 abbrev pub BooksRoute : Type 0
-BooksRoute = map (λ e. routed (book_of e.book) e.outcome) books ≡ sent
+BooksRoute = AllByRecursion (λ e. routed (book_of e.book) e.outcome ≡ e.sent) books
 
 -- the ticket of a book, where it has one
 abbrev listed : Option Ticket → List Ticket
@@ -92,4 +92,4 @@ listed None = []
 listed (Some t) = t ∷ []
 
 abbrev pub SentAt : ℕ → Option Ticket → Type 0
-SentAt place t = listed t ≡ slice_index_or sent place []
+SentAt place t = listed t ≡ slice_index_or (map (λ e. e.sent) books) place []

@@ -4,11 +4,12 @@
 mod books;
 mod bytes;
 
-use books::{Worked, books, worked_books_close};
+use books::{Worked, books, ticket_at, worked_books_close};
 use bytes::{Priced, image_of};
 use image::export::snap_price_image;
 use pricing::level::Level;
 use report::numbers::Grouped;
+use routing::ticket::Ticket;
 
 // One entry of a book as it is written: shares at a price.
 fn entry_words(rt: &HostRuntime, entry: Option<Level>) -> anyhow::Result<String> {
@@ -31,6 +32,16 @@ fn outcome_words(rt: &HostRuntime, priced: Priced) -> anyhow::Result<String> {
     Ok(format!(in rt.alloc(); "{price}, count {count}")?)
 }
 
+// The shares that a close sends out, and at which price.
+fn ticket_words(rt: &HostRuntime, ticket: Option<Ticket>) -> anyhow::Result<String> {
+    let Some(ticket) = ticket else {
+        return Ok(String::new(rt.alloc()));
+    };
+    let shares = ticket.shares;
+    let price = Grouped(u64::from(ticket.price));
+    Ok(format!(in rt.alloc(); "  ticket {shares}@{price}")?)
+}
+
 fn print_book(rt: &HostRuntime, number: usize, worked: Worked) -> anyhow::Result<()> {
     let image = image_of(rt.alloc(), worked)?;
     let mut out = [0; 16];
@@ -45,14 +56,17 @@ fn print_book(rt: &HostRuntime, number: usize, worked: Worked) -> anyhow::Result
     } else {
         format!(in rt.alloc(); "refused with {refusal}")?
     };
-    println!(rt; "{number:>2}  {buy:<12} {sell:<12} {bid:<12} {offer:<12} {last:>8}  {outcome}")?;
+    let ticket = ticket_words(rt, ticket_at(number.saturating_sub(1)))?;
+    println!(rt;
+        "{number:>2}  {buy:<12} {sell:<12} {bid:<12} {offer:<12} {last:>8}  {outcome}{ticket}"
+    )?;
     Ok(())
 }
 
 fn main(rt: HostRuntime) -> anyhow::Result<()> {
     let proved = worked_books_close();
     println!(rt;
-        "{proved} worked books, whose outcomes are proved of the rules, priced by the exported function"
+        "{proved} worked books, whose outcomes and tickets are proved of the rules, priced by the exported function"
     )?;
     println!(rt; "No  buy          sell         bid          offer        last sale  outcome")?;
     for (number, worked) in (1..).zip(&books()) {

@@ -1,6 +1,6 @@
 use Rattle.std.proofs.Common.{Err, rules}
 use Rattle.pricing.specs.declared.cause.Cause.TheVariants.{NothingToTrade}
-use Rattle.engine.specs.declared.call.Call.TheVariants.{Begin, Enter, Cancel, Close, Report, Match, Finish, Abort}
+use Rattle.engine.specs.declared.call.Call.TheVariants.{Begin, Enter, Cancel, Report, Match, Finish, Abort}
 use Rattle.engine.specs.Lent.{held_in}
 use Rattle.engine.specs.Effects.{granted}
 use Rattle.engine.proofs.Turning.{yes_to, granted_by}
