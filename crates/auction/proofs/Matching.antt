@@ -8,19 +8,19 @@ use Rattle.routing.specs.Owed.{executable_of}
 use Rattle.engine.specs.declared.state.Engine.{Engine}
 use Rattle.engine.specs.Stages.{price_of}
 use Rattle.engine.specs.States.{Held}
-use Rattle.engine.specs.Effects.{executable, matched}
+use Rattle.engine.specs.Effects.{to_execute, matched}
 use Rattle.auction.specs.Tallies.{Tally, share_of, matchable, executed}
 use Rattle.auction.proofs.Good.{Good}
 use Rattle.auction.proofs.Handing.{here_takes, side_handed, apart_handed}
 use Rattle.auction.proofs.Resting.{executable_rows, executable_within, shares_sum}
 
 module _ (e : Engine) (h : Held) (y : Tally) (good : Good e h y) where
-  executable_matchable : executable h (price_of e.stage) ≡ matchable y
+  executable_matchable : to_execute h (price_of e.stage) ≡ matchable y
   executable_matchable =
       let p : ℕ = price_of e.stage in
       let b = executable_rows Buy e.used.buys h.buys y.buys good.buys Buy p in
       let s = executable_rows Sell e.used.sells h.sells y.sells good.sells Sell p in
-      let both : executable h p ≡ min (executable_of Buy p (rest_levels y.buys)) (executable_of Sell p (rest_levels y.sells)) = cc in
+      let both : to_execute h p ≡ min (executable_of Buy p (rest_levels y.buys)) (executable_of Sell p (rest_levels y.sells)) = cc in
       both ∙ ap (λ t. min (executable_of Buy (price_of t) (rest_levels y.buys)) (executable_of Sell (price_of t) (rest_levels y.sells))) good.stage_is
 
   -- n shares that both sides have
@@ -52,7 +52,7 @@ module _ (e : Engine) (h : Held) (y : Tally) (good : Good e h y) where
   }
 
   pub match_good : (time : ℕ)
-      → Good (matched e h time (executable h (price_of e.stage))).engine (matched e h time (executable h (price_of e.stage))).held (executed (matchable y) y)
+      → Good (matched e h time (to_execute h (price_of e.stage))).engine (matched e h time (to_execute h (price_of e.stage))).held (executed (matchable y) y)
   match_good time =
-      let n : ℕ = executable h (price_of e.stage) in
+      let n : ℕ = to_execute h (price_of e.stage) in
       subst (λ k. Good (matched e h time n).engine (matched e h time n).held (executed k y)) executable_matchable (matched_good time n executable_matchable)

@@ -123,7 +123,7 @@ routed price deadline m y = record {
   sold = y.sold;
 }
 
--- a close that fixed no price: only the quotes are noted
+-- a close that fixed no price: the quotes are noted, and there is nothing to match
 abbrev pub unrouted : Market → Tally → Tally
 unrouted m y = record {
   begun = y.begun;

@@ -1,4 +1,4 @@
-// Rows of 44 bytes, as a book of orders has them, and as C lends them.
+// Rows of 44 bytes, the ten numbers of an order's row and one more, as C lends them.
 ghost use Rattle.benches.specs.Rows.{row_ahead};
 ghost use Rattle.std.proofs.Common.{rules};
 

@@ -1,4 +1,7 @@
 // Calls, answers and times in words.
+ghost use Rattle.std.specs.Prelude.{◌≡◌, Some};
+ghost use Rattle.call_words.specs.Words.{clock_text, side_word, class_word, order_text, call_text, answer_text, outcome_text};
+
 use engine::answer::Answer;
 use engine::call::Call;
 use market::refusal::Refusal;
@@ -11,7 +14,10 @@ use std::fmt;
 #[derive(Clone, Copy, Debug, PartialEq, Eq)]
 pub struct Clock(pub u32);
 
+#[tactic(auto, using(report::proofs::Filled::filled))]
 impl fmt::Display for Clock {
+    ghost output = { λ time. Some (clock_text time.0) };
+
     fn fmt<W: fmt::Write>(&self, f: &mut fmt::Formatter<W>) -> fmt::Result {
         let hours = self.0 / 3_600_000;
         let minutes = self.0 / 60_000 % 60;
@@ -22,7 +28,9 @@ impl fmt::Display for Clock {
 }
 
 // A refused order may have any numbers, so names are of numbers.
-pub fn side_name(side: u32) -> &'static str {
+pub fn side_name(side: u32) -> &'static str
+    ensures { result.now ≡ side_word side }
+{
     match Side::try_from(side) {
         Ok(Side::Buy) => "buy",
         Ok(Side::Sell) => "sell",
@@ -30,7 +38,9 @@ pub fn side_name(side: u32) -> &'static str {
     }
 }
 
-pub fn class_name(class: u32) -> &'static str {
+pub fn class_name(class: u32) -> &'static str
+    ensures { result.now ≡ class_word class }
+{
     match Class::try_from(class) {
         Ok(Class::Displayed) => "displayed",
         Ok(Class::Reserve) => "reserve",
@@ -43,6 +53,8 @@ pub fn class_name(class: u32) -> &'static str {
 pub struct OrderWords(pub Order);
 
 impl fmt::Display for OrderWords {
+    ghost output = { λ order. Some (order_text order.0) };
+
     fn fmt<W: fmt::Write>(&self, f: &mut fmt::Formatter<W>) -> fmt::Result {
         let number = self.0.number;
         let side = side_name(self.0.side);
@@ -57,6 +69,8 @@ impl fmt::Display for OrderWords {
 pub struct CallWords(pub Call);
 
 impl fmt::Display for CallWords {
+    ghost output = { λ call. Some (call_text call.0) };
+
     fn fmt<W: fmt::Write>(&self, f: &mut fmt::Formatter<W>) -> fmt::Result {
         match self.0 {
             Call::Begin { time, order, .. } => {
@@ -98,6 +112,8 @@ impl fmt::Display for CallWords {
 pub struct AnswerWords(pub Answer);
 
 impl fmt::Display for AnswerWords {
+    ghost output = { λ answer. Some (answer_text answer.0) };
+
     fn fmt<W: fmt::Write>(&self, f: &mut fmt::Formatter<W>) -> fmt::Result {
         match self.0 {
             Answer::Done => write!(f, "done"),
@@ -116,7 +132,8 @@ impl fmt::Display for AnswerWords {
             }
             Answer::Unpriced { cause } => {
                 let number = u32::from(cause);
-                write!(f, "no price, cause {number}, {cause}")
+                let words = cause.words();
+                write!(f, "no price, cause {number}, {words}")
             }
             Answer::Executed { shares } => {
                 let shares = Grouped(shares);
@@ -131,6 +148,8 @@ impl fmt::Display for AnswerWords {
 pub struct Outcome(pub Result<Answer, Refusal>);
 
 impl fmt::Display for Outcome {
+    ghost output = { λ outcome. Some (outcome_text outcome.0) };
+
     fn fmt<W: fmt::Write>(&self, f: &mut fmt::Formatter<W>) -> fmt::Result {
         match self.0 {
             Ok(answer) => {
@@ -139,7 +158,8 @@ impl fmt::Display for Outcome {
             }
             Err(refusal) => {
                 let number = u32::from(refusal);
-                write!(f, "refused with {number}, {refusal}")
+                let words = refusal.words();
+                write!(f, "refused with {number}, {words}")
             }
         }
     }

@@ -68,7 +68,7 @@ impl Depth {
     }
 }
 
-// The permitted price one step below a permitted one.
+// The price one step below a permitted one; 0 below the lowest.
 pub fn step_below(price: u32) -> u32
     ensures { result ≡ price - (if nat_le price dollar then fine_step else cent) }
 {
@@ -76,7 +76,7 @@ pub fn step_below(price: u32) -> u32
     price.saturating_sub(step)
 }
 
-// The permitted price one step above a permitted one. At a dollar the step above is another than the step below.
+// The price one step above a permitted one. At a dollar the step above is another than the step below.
 pub fn step_above(price: u32) -> u32
     ensures { price ≤ highest_price → result ≡ price + (if nat_lt price dollar then fine_step else cent) }
 {

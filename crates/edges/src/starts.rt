@@ -1,4 +1,4 @@
-// The minimum sizes of a start order, at the price where each begins and at the last price before it.
+// The minimum sizes of a start order, at the price where each begins and at the last price before it; the first at 4.
 use crate::edge::{edge, head};
 use crate::scenes::{begin, open, order, quoted};
 use desk::desk::Desk;

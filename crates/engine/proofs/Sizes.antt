@@ -32,7 +32,7 @@ use Rattle.engine.specs.Limits.{order_rows, quote_rows, ticket_rows}
 use Rattle.engine.specs.Stages.{is_matched, price_of}
 use Rattle.engine.specs.States.{Held, none_used, buys_in, sells_in}
 use Rattle.engine.specs.Questions.{sizes_fit, questions, ticket_at}
-use Rattle.engine.specs.Effects.{Left, unless, ahead_on, emptied, seated, order_held, changed_in, with_order, book_in, ranked_bids, ranked_offers, written, with_quotes, buy_tickets, sell_tickets, buys_route, with_routed, without_rests, reported, executable, close, done}
+use Rattle.engine.specs.Effects.{Left, unless, ahead_on, emptied, seated, order_held, changed_in, with_order, book_in, ranked_bids, ranked_offers, written, with_quotes, buy_tickets, sell_tickets, buys_route, with_routed, without_rests, reported, to_execute, close, done}
 use Rattle.engine.specs.Steps.{Called, SameSizes}
 
 -- the sizes that every granted call finds
@@ -174,7 +174,7 @@ module _ (e : Engine) (m : Market) (h : Held) where
       let c = changed_sizes (with_settled t.shares filled (is_matched e.stage)) t.order e h in
       record { buys = c.buys; sells = c.sells; bids = c.bids; offers = c.offers; tickets = length-set _ _ (reported t) ∙ c.tickets }
   granted_sizes (Match time) x all =
-      let n : ℕ = executable h (price_of e.stage) in
+      let n : ℕ = to_execute h (price_of e.stage) in
       record { buys = length_handed with_here n h.buys; sells = length_handed with_here n h.sells; bids = refl; offers = refl; tickets = refl }
   granted_sizes (Finish time) x all = same_sizes h
   granted_sizes (Abort time) x all = rests_sizes h

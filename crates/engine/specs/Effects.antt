@@ -226,8 +226,8 @@ report e h ticket filled late =
     Done
 
 -- match: the smaller of both sides' executable shares, moved from rest to here in rank order
-abbrev pub executable : Held → ℕ → ℕ
-executable h price = min (at_or_above price (rest_levels h.buys)) (at_or_below price (rest_levels h.sells))
+abbrev pub to_execute : Held → ℕ → ℕ
+to_execute h price = min (at_or_above price (rest_levels h.buys)) (at_or_below price (rest_levels h.sells))
 
 abbrev pub matched : Engine → Held → ℕ → ℕ → Left
 matched e h time shares =
@@ -240,6 +240,6 @@ done e m h (Enter order) x = enter e h order
 done e m h (Cancel number) x = cancel e h number
 done e m h (Close time last) x = close e m h time x
 done e m h (Report ticket filled) x = report e h ticket filled (is_matched e.stage)
-done e m h (Match time) x = matched e h time (executable h (price_of e.stage))
+done e m h (Match time) x = matched e h time (to_execute h (price_of e.stage))
 done e m h (Finish time) x = granted (ended time e) h Done
 done e m h (Abort time) x = granted (ended time e) (without_rests h) (Cancelled (all_rests h))

@@ -1,4 +1,4 @@
-// Questions about the tables that several calls ask.
+// Questions about orders, tickets and tables.
 ghost use Rattle.std.specs.Prelude.{◌≡◌, ◌-◌, ◌&&◌, length, take, is_some, IfSome, nat_le, slice_index_or};
 ghost use Rattle.std.specs.Result.{result_err};
 ghost use Rattle.market.specs.Fits.{all_by};
@@ -60,8 +60,8 @@ fn ticket_with(tickets: &[Ticket], used: usize, number: u32) -> Option<Ticket>
 }
 
 impl Fitted<'_> {
-    // The ticket with a number among the first `used`, an empty one where there is none.
-    // (By the definition 0 stands for the first one, so it is not `ticket_with`.)
+    // The ticket with a number among the first `used`, an empty one past them. By the definition 0 stands for the first one, so
+    // it is not `ticket_with`.
     pub(crate) fn ticket(&self, used: usize, number: u32) -> Ticket
         ensures { result ≡ slice_index_or (take used self.now.tickets.now) (number - 1) empty_ticket }
     {

@@ -5,7 +5,7 @@ ghost use Rattle.orders.specs.Tables.{handed};
 ghost use Rattle.engine.specs.declared.answer.Answer.TheVariants.{Done, Cancelled};
 ghost use Rattle.engine.specs.Stages.{is_satisfaction, price_of};
 ghost use Rattle.engine.specs.Lent.{held_in, SameFitted};
-ghost use Rattle.engine.specs.Effects.{granted, ended, with_sides, without_rests, all_rests, executable, matched};
+ghost use Rattle.engine.specs.Effects.{granted, ended, with_sides, without_rests, all_rests, to_execute, matched};
 
 use crate::answer::Answer;
 use crate::fitted::Fitted;
@@ -30,7 +30,7 @@ impl Fitted<'_> {
 
     // The executable shares at a price of the side that has fewer: of rows alone, so it is no count of a book, which has quotes.
     fn matchable(&self, price: u32) -> u64
-        ensures { result ≡ executable (held_in self.now) price }
+        ensures { result ≡ to_execute (held_in self.now) price }
     {
         executable(Side::Buy, &*self.buys, price).min(executable(Side::Sell, &*self.sells, price))
     }
@@ -58,7 +58,7 @@ impl Engine {
     // Executes what both sides can trade at the price that was fixed.
     pub(crate) fn match_sides(&mut self, time: u32, tables: &mut Fitted<'_>) -> Answer
         requires stage { is_satisfaction self.old.stage ≡ true }
-        ensures step { granted self.new (held_in tables.new) result ≡ matched self.old (held_in tables.old) time (executable (held_in tables.old) (price_of self.old.stage)) }
+        ensures step { granted self.new (held_in tables.new) result ≡ matched self.old (held_in tables.old) time (to_execute (held_in tables.old) (price_of self.old.stage)) }
         ensures names { SameFitted tables.old tables.new }
     {
         let Stage::Satisfaction { price, .. } = self.stage else {

@@ -6,9 +6,9 @@ ghost use Rattle.engine.specs.Stages.{is_open, is_acceptance, is_satisfaction, i
 #[derive(Clone, Copy, Debug, PartialEq, Eq)]
 pub enum Stage {
     Open,
-    // Orders are taken until it may be closed, at this time or later.
+    // Orders are taken; it may be closed at this time or later.
     Acceptance { closes: u32 },
-    // A price is fixed; tickets may be reported until the deadline.
+    // A price is fixed. Tickets may be reported; from the deadline on the match may come without them.
     Satisfaction { price: u32, deadline: u32 },
     Matched,
 }

@@ -76,7 +76,7 @@ pub struct BookImage<'a> {
 }
 
 impl<'a> BookImage<'a> {
-    // The book in some bytes, or a refusal where they have not the layout of an image. It reads and converts nothing: the
+    // The book in some bytes, or a refusal where they have not the layout of an image. It reads the four sizes only: the
     // bytes stay where they are.
     pub fn read(bytes: &'a [u8]) -> Result<BookImage<'a>, Refusal>
         ensures { MatchResult result (λ image. (is_image bytes.now ≡ true) × (book_of image ≡ image_book bytes.now)) (λ e. (is_image bytes.now ≡ false) × (e ≡ ImageLayout)) }

@@ -90,6 +90,7 @@ impl VenueTable {
     // Halts trading, or lets it go on.
     pub fn set_halted(&mut self, halted: bool)
         ensures market { market_in self.new ≡ record { bids = (market_in self.old).bids; offers = (market_in self.old).offers; halted = halted } }
+        ensures listed { ByVenue (market_in self.new) }
     {
         self.halted = halted;
     }

@@ -5,7 +5,7 @@ use market::price::entry_fits;
 use market::side::Side;
 use thiserror::Error;
 
-// A member can enter any numbers, and each that is wrong is refused by its own refusal.
+// A member can enter any numbers; an order that is not well formed is refused.
 #[repr(C)]
 #[derive(Clone, Copy, Debug, PartialEq, Eq, Hash)]
 pub struct Order {

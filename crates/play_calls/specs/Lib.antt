@@ -1,1 +1,3 @@
 pub mod Digests
+pub mod Replies
+pub mod Turns

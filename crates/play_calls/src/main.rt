@@ -1,7 +1,9 @@
 #![tactic(auto)]
 
-// Plays calls on an engine: a line of standard input is a call, and a line of standard output its answer with a digest
-// of the engine and of every table.
+// Plays calls on an engine: a line of standard input is a call, a change of the venues or a new engine, and a line of standard
+// output its answer with a digest of the engine and of every table.
+ghost use Rattle.play_calls.specs.Turns.{Played};
+
 mod digest;
 mod line;
 mod reply;
@@ -15,7 +17,9 @@ use reply::Reply;
 use std::io::{BufRead, BufReader};
 
 // Does what a line says: the turns are a closed list, each with values of its own.
-fn play(desk: &mut Desk, turn: Turn) -> Result<Reply, Refusal> {
+fn play(desk: &mut Desk, turn: Turn) -> Result<Reply, Refusal>
+    ensures { Played desk.old turn desk.new result }
+{
     match turn {
         Turn::Quote {
             venue,

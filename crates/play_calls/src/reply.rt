@@ -1,4 +1,7 @@
 // What a line that is not refused is answered.
+ghost use Rattle.std.specs.Prelude.{Some};
+ghost use Rattle.play_calls.specs.Replies.{reply_text};
+
 use engine::answer::Answer;
 use std::fmt;
 
@@ -11,6 +14,8 @@ pub enum Reply {
 
 // The numbers of an answer, a blank before each. Those of a close are 0 where it has none, and so is no ticket.
 impl fmt::Display for Reply {
+    ghost output = { λ reply. Some (reply_text reply) };
+
     fn fmt<W: fmt::Write>(&self, f: &mut fmt::Formatter<W>) -> fmt::Result {
         match *self {
             Reply::Done | Reply::Called(Answer::Done) => Ok(()),

@@ -113,7 +113,7 @@ pub fn close(rt: &HostRuntime, desk: &mut Desk) -> io::Result<()> {
     Ok(())
 }
 
-// Tickets are reported until the deadline, and the sides are matched then.
+// Tickets are reported, and the sides are matched at the deadline.
 pub fn satisfy(rt: &HostRuntime, desk: &mut Desk) -> io::Result<()> {
     println!(rt; "")?;
     let deadline = Clock(MATCH);

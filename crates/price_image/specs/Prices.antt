@@ -1,7 +1,8 @@
 -- The prices at which shares stand in a book, one after another.
-use Rattle.std.specs.Prelude.{◌≡◌, ℕ, ◌<◌, ◌≤◌, ◌⊎◌, Option}
+use Rattle.std.specs.Prelude.{◌≡◌, ℕ, ◌<◌, ◌≤◌, ◌⊎◌, Option, List, [], ◌∷◌}
 use Rattle.std.specs.Option.{MatchOption}
 use Rattle.market.specs.Limits.{highest_price}
+use Rattle.pricing.specs.Books.{Book}
 use Rattle.pricing.specs.Ranges.{next_price}
 use Rattle.image.specs.Held.{book_of}
 use Rattle.price_image.specs.declared.prices.Prices.{Prices}
@@ -11,3 +12,8 @@ abbrev pub StepsUp : Prices → Option ℕ → Prices → Type 0
 StepsUp before given after =
     let next = next_price (book_of before.book) before.above in
     MatchOption given ((highest_price ≤ next) ⊎ (next ≤ before.above)) (λ price. (price ≡ next) × (price < highest_price) × (after.book ≡ before.book) × (after.above ≡ price))
+
+-- the prices of a book between two, the lowest first: each is the next above that before it, and past the last none is left
+abbrev pub PricesBetween : Book → ℕ → ℕ → List ℕ → Type 0
+PricesBetween book low high [] = let next = next_price book low in (high ≤ next) ⊎ (highest_price ≤ next) ⊎ (next ≤ low)
+PricesBetween book low high (price ∷ above) = (price ≡ next_price book low) × (price < high) × PricesBetween book price high above

@@ -1,6 +1,7 @@
 // The record of one pricing.
-ghost use Rattle.std.specs.Prelude.{◌<◌, IfOk};
-ghost use Rattle.std.specs.List.{All};
+ghost use Rattle.std.specs.Prelude.{IfOk};
+ghost use Rattle.image.specs.Held.{book_of};
+ghost use Rattle.price_image.specs.Prices.{PricesBetween};
 
 use crate::prices::Prices;
 use crate::request::Request;
@@ -71,7 +72,7 @@ const SHOWN: usize = 4;
 
 // The prices of the book below one, the lowest first.
 fn prices_below(alloc: Global, book: &BookImage<'_>, middle: u32) -> Result<Vec<u32>, AllocError>
-    ensures { IfOk result (λ prices. All (λ price. price < middle) prices.items) }
+    ensures { IfOk result (λ prices. PricesBetween (book_of book.now) 0 middle prices.items) }
 {
     Prices::above(*book, 0)
         .take_while(|price| *price < middle)

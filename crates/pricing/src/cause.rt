@@ -15,7 +15,7 @@ pub enum Cause {
 }
 
 impl Cause {
-    // What it says, in words: a function of its own, since what a Display prints has no contract.
+    // What it says, in words: a function of its own, since a derived Display has no contract.
     pub fn words(self) -> &'static str
         ensures { result.now ≡ cause_words self }
     {

@@ -1,4 +1,4 @@
-// Shares that stand at a price, and what has such shares: a level itself, a quote, the row of an order.
+// Shares that stand at a price, and what has such shares: a quote, the row of an order.
 ghost use Rattle.std.specs.Prelude.{◌≡◌, ◌*◌, ◌≤◌, map, length, take};
 ghost use Rattle.pricing.specs.Books.{quote_level, executable, executable_at};
 ghost use Rattle.pricing.specs.Ranges.{standing, next_above};

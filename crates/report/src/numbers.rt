@@ -9,12 +9,18 @@ use std::fmt;
 #[derive(Clone, Copy, Debug, PartialEq, Eq)]
 pub struct Grouped(pub u64);
 
+#[tactic(auto, using(crate::proofs::Filled::filled, crate::proofs::Filled::in_millions, crate::proofs::Filled::in_billions))]
 impl fmt::Display for Grouped {
+    ghost use Rattle.std.specs.Prelude.{Some};
+    ghost use Rattle.report.specs.Numbers.{grouped_text};
+
+    ghost output = { λ count. Some (grouped_text count.0) };
+
     fn fmt<W: fmt::Write>(&self, f: &mut fmt::Formatter<W>) -> fmt::Result {
-        let billions = self.0 / 1_000_000_000;
-        let millions = self.0 / 1_000_000 % 1_000;
-        let thousands = self.0 / 1_000 % 1_000;
-        let ones = self.0 % 1_000;
+        let thousands = self.0 / 1_000;
+        let millions = thousands / 1_000;
+        let billions = millions / 1_000;
+        let (millions, thousands, ones) = (millions % 1_000, thousands % 1_000, self.0 % 1_000);
         if billions > 0 {
             write!(f, "{billions},{millions:03},{thousands:03},{ones:03}")
         } else if millions > 0 {
@@ -31,7 +37,13 @@ impl fmt::Display for Grouped {
 #[derive(Clone, Copy, Debug, PartialEq, Eq)]
 pub struct Dollars(pub u32);
 
+#[tactic(auto, using(crate::proofs::Filled::filled))]
 impl fmt::Display for Dollars {
+    ghost use Rattle.std.specs.Prelude.{Some};
+    ghost use Rattle.report.specs.Numbers.{dollars_text};
+
+    ghost output = { λ price. Some (dollars_text price.0) };
+
     fn fmt<W: fmt::Write>(&self, f: &mut fmt::Formatter<W>) -> fmt::Result {
         let whole = self.0 / DOLLAR;
         let part = self.0 % DOLLAR * 5;
@@ -52,7 +64,13 @@ fn grouped_width(n: u64) -> usize
 #[derive(Clone, Copy, Debug, PartialEq, Eq)]
 pub struct Column<const WIDTH: usize>(pub u64);
 
+#[tactic(auto, using(crate::proofs::Filled::blanked))]
 impl<const WIDTH: usize> fmt::Display for Column<WIDTH> {
+    ghost use Rattle.std.specs.Prelude.{Some};
+    ghost use Rattle.report.specs.Numbers.{column_text};
+
+    ghost output = { λ count. Some (column_text WIDTH count.0) };
+
     fn fmt<W: fmt::Write>(&self, f: &mut fmt::Formatter<W>) -> fmt::Result {
         let blanks = WIDTH.saturating_sub(grouped_width(self.0));
         let grouped = Grouped(self.0);

@@ -1,4 +1,6 @@
 // The sheets of the record: the book, the tickets, the prices around the price, the orders at the end.
+ghost use Rattle.std.specs.Prelude.{◌≡◌, codes, if◌then◌else◌};
+
 use crate::accounts::{adds_up, all_add_up, executed_here};
 use call_words::words::class_name;
 use desk::depth::{Depth, step_above, step_below};
@@ -8,7 +10,9 @@ use report::numbers::{Column, Dollars, Grouped};
 use std::io;
 
 // A count of shares at the right end of a column of 10.
-fn shares(count: u32) -> Column<10> {
+fn shares(count: u32) -> Column<10>
+    ensures { result.0 ≡ count }
+{
     Column(u64::from(count))
 }
 
@@ -60,7 +64,7 @@ pub fn print_outstanding(rt: &HostRuntime, desk: &mut Desk) -> io::Result<()> {
     }
 }
 
-// Demand, supply and count at the price, and at two permitted steps below and above it.
+// Demand, supply and count at the price, and at two steps below and above it.
 pub fn print_depth(rt: &HostRuntime, depth: &Depth, price: u32) -> io::Result<()> {
     println!(rt; "")?;
     println!(rt; "Around the price     demand        supply         count")?;
@@ -96,7 +100,9 @@ pub fn print_trades(rt: &HostRuntime, desk: &Desk) -> io::Result<()> {
 }
 
 // Two words for a bool, in a line, as long as a type's Display would be.
-fn verdict(holds: bool) -> &'static str {
+fn verdict(holds: bool) -> &'static str
+    ensures { result.now ≡ (if holds then codes "holds" else codes "FAILS") }
+{
     if holds { "holds" } else { "FAILS" }
 }
 

@@ -49,7 +49,7 @@ fn print_table(rt: &HostRuntime, table: &VenueTable) -> io::Result<()> {
     println!(rt; "")
 }
 
-// Venues quote, in no order of their numbers. The table takes any number for a side, 1 for bids and 2 for offers.
+// Venues quote, in no order of their numbers. A call may bring any number for a side; 1 is bids and 2 is offers.
 fn fill(rt: &HostRuntime, table: &mut VenueTable) -> io::Result<()> {
     print_answer(
         rt,
