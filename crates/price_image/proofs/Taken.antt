@@ -49,7 +49,7 @@ module _ {F : Type 0} (g : Mut F (Bor ℕ × Unit {0}) Bool) (f : F) (high : ℕ
       let q = open_turn s j (Some x) d one in
       let c = came s j x q.0 a q.1 q.2 in
       let more = taken xs j t u c.2 c.3 y n in
-      (c.0.0, c.1, subst (λ z. PricesBetween (book_of s.iter.book) z high xs) c.0.3 (subst (λ b. PricesBetween (book_of b) j.iter.above high xs) c.0.2 more))
+      (c.0.0, c.0.1, c.1, subst (λ z. PricesBetween (book_of s.iter.book) z high xs) c.0.3 (subst (λ b. PricesBetween (book_of b) j.iter.above high xs) c.0.2 more))
 
   -- what is collected of them
   pub listed : {Z E : Type 0} (r : Result (Vec ℕ Z) E) (s : TakeWhile Prices F) → s.p ≡ f → s.done ≡ false → IsCollectResult (take_while_steps StepsUp g) s r

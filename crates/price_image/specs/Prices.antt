@@ -13,7 +13,9 @@ StepsUp before given after =
     let next = next_price (book_of before.book) before.above in
     MatchOption given ((highest_price ≤ next) ⊎ (next ≤ before.above)) (λ price. (price ≡ next) × (price < highest_price) × (after.book ≡ before.book) × (after.above ≡ price))
 
--- the prices of a book between two, the lowest first: each is the next above that before it, and past the last none is left
+-- the prices of a book between two, below the highest there is, the lowest first: each is the next above that before it, and
+-- past the last none is left
 abbrev pub PricesBetween : Book → ℕ → ℕ → List ℕ → Type 0
 PricesBetween book low high [] = let next = next_price book low in (high ≤ next) ⊎ (highest_price ≤ next) ⊎ (next ≤ low)
-PricesBetween book low high (price ∷ above) = (price ≡ next_price book low) × (price < high) × PricesBetween book price high above
+PricesBetween book low high (price ∷ above) =
+    (price ≡ next_price book low) × (price < highest_price) × (price < high) × PricesBetween book price high above
