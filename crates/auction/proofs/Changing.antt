@@ -32,6 +32,7 @@ module _ (f : OrderRow → OrderRow) (keeps : Keeps f) (n : ℕ) where
     number = λ w. elim (eqb w.number n) as (λ b. (cond b (f w) w).number ≡ w.number) [ true ↦ keeps.number w | false ↦ refl ];
     class = λ w. elim (eqb w.number n) as (λ b. (cond b (f w) w).class ≡ w.class) [ true ↦ keeps.class w | false ↦ refl ];
     price = λ w. elim (eqb w.number n) as (λ b. (cond b (f w) w).price ≡ w.price) [ true ↦ keeps.price w | false ↦ refl ];
+    shares = λ w. elim (eqb w.number n) as (λ b. (cond b (f w) w).shares ≡ w.shares) [ true ↦ keeps.shares w | false ↦ refl ];
     whole = λ w h. elim (eqb w.number n) as (λ b. is_whole (cond b (f w) w) ≡ true) [ true ↦ keeps.whole w h | false ↦ h ];
   }
 
@@ -74,6 +75,8 @@ module _ (f : OrderRow → OrderRow) (keeps : Keeps f) (n : ℕ) (e : Engine) (h
     apart = apart_mapped _ _ (keeps_on f keeps n) (keeps_on f keeps n) y.buys y.sells good.apart;
     bids_are = good.bids_are;
     offers_are = good.offers_are;
+    bids_used = good.bids_used;
+    offers_used = good.offers_used;
     no_quotes = good.no_quotes;
     tickets_used = good.tickets_used;
     tickets_few = good.tickets_few;
@@ -88,6 +91,8 @@ module _ (f : OrderRow → OrderRow) (keeps : Keeps f) (n : ℕ) (e : Engine) (h
     apart = apart_mapped _ _ (keeps_on f keeps n) (keeps_on f keeps n) y.buys y.sells good.apart;
     bids_are = good.bids_are;
     offers_are = good.offers_are;
+    bids_used = good.bids_used;
+    offers_used = good.offers_used;
     no_quotes = good.no_quotes;
     tickets_used = good.tickets_used;
     tickets_few = good.tickets_few;
@@ -100,13 +105,13 @@ module _ (f : OrderRow → OrderRow) (keeps : Keeps f) (n : ℕ) (e : Engine) (h
   changed_good = changed_by (is_some (place_of n (buys_in e h))) refl
 
 pub keeps_cancelled : Keeps with_cancelled
-keeps_cancelled = record { number = λ w. refl; class = λ w. refl; price = λ w. refl; whole = λ w h. (stays_whole w h).cancelled }
+keeps_cancelled = record { number = λ w. refl; class = λ w. refl; price = λ w. refl; shares = λ w. refl; whole = λ w h. (stays_whole w h).cancelled }
 
 pub cancel_good : (e : Engine) (h : Held) (y : Tally) (n : ℕ) → Good e h y → Good (cancel e h n).engine (cancel e h n).held (changed n with_cancelled y)
 cancel_good e h y n good = changed_good with_cancelled keeps_cancelled n e h y good
 
 keeps_settled : (shares filled : ℕ) (late : Bool) → Keeps (with_settled shares filled late)
-keeps_settled shares filled late = record { number = λ w. refl; class = λ w. refl; price = λ w. refl; whole = λ w h. (stays_whole w h).settled shares filled late }
+keeps_settled shares filled late = record { number = λ w. refl; class = λ w. refl; price = λ w. refl; shares = λ w. refl; whole = λ w h. (stays_whole w h).settled shares filled late }
 
 module _ (e : Engine) (h : Held) (y : Tally) (good : Good e h y) (ticket filled : ℕ) where
   -- with any ticket in the place of one that exists
@@ -123,6 +128,8 @@ module _ (e : Engine) (h : Held) (y : Tally) (good : Good e h y) (ticket filled 
         apart = c.apart;
         bids_are = c.bids_are;
         offers_are = c.offers_are;
+        bids_used = c.bids_used;
+        offers_used = c.offers_used;
         no_quotes = c.no_quotes;
         tickets_used = c.tickets_used ∙ sym as_long;
         tickets_few = rw as_long c.tickets_few;

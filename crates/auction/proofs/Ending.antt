@@ -5,7 +5,9 @@ use Rattle.std.proofs.lemmas.List.{map-append}
 use Rattle.std.proofs.lemmas.Bool.{false≢true}
 use Rattle.ranking.specs.Ranked.{ranked}
 use Rattle.ranking.proofs.Ranks.{all_ranked}
+use Rattle.ranking.proofs.Listed.{length_ranked}
 use Rattle.market.specs.Markets.{Market, no_quote}
+use Rattle.market.specs.Rankings.{higher, lower, quote_ahead}
 use Rattle.market.specs.declared.side.Side.{Side}
 use Rattle.market.specs.declared.side.Side.TheVariants.{Buy, Sell}
 use Rattle.pricing.specs.declared.cause.Cause.{Cause}
@@ -54,6 +56,8 @@ module _ (e : Engine) (h : Held) (y : Tally) (good : Good e h y) (time : ℕ) wh
     apart = good.apart;
     bids_are = good.bids_are;
     offers_are = good.offers_are;
+    bids_used = good.bids_used;
+    offers_used = good.offers_used;
     no_quotes = λ k. absurd (false≢true k);
     tickets_used = good.tickets_used;
     tickets_few = good.tickets_few;
@@ -70,6 +74,8 @@ module _ (e : Engine) (h : Held) (y : Tally) (good : Good e h y) (time : ℕ) wh
     apart = apart_mapped with_cancelled with_cancelled keeps_cancelled keeps_cancelled y.buys y.sells good.apart;
     bids_are = good.bids_are;
     offers_are = good.offers_are;
+    bids_used = good.bids_used;
+    offers_used = good.offers_used;
     no_quotes = λ k. absurd (false≢true k);
     tickets_used = good.tickets_used;
     tickets_few = good.tickets_few;
@@ -88,6 +94,8 @@ module _ (e : Engine) (h : Held) (y : Tally) (good : Good e h y) (time : ℕ) wh
       apart = good.apart;
       bids_are = written_empty 32 no_quote (ranked_bids m) h.bids (good.bids_are ∙ ap (then_empty 32 no_quote) (good.no_quotes acceptance).0);
       offers_are = written_empty 32 no_quote (ranked_offers m) h.offers (good.offers_are ∙ ap (then_empty 32 no_quote) (good.no_quotes acceptance).1);
+      bids_used = sym (length_ranked (quote_ahead higher) m.bids);
+      offers_used = sym (length_ranked (quote_ahead lower) m.offers);
       no_quotes = λ k. absurd (false≢true k);
       tickets_used = sym (ap length (good.no_tickets acceptance));
       tickets_few = good.tickets_few;

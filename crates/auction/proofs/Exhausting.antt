@@ -6,10 +6,10 @@ use Rattle.std.proofs.lemmas.Bool.Decides.{nat_tests}
 use Rattle.market.specs.declared.side.Side.{Side}
 use Rattle.market.specs.declared.side.Side.TheVariants.{Buy, Sell}
 use Rattle.pricing.proofs.Levels.{sum_by_none}
+use Rattle.pricing.specs.Books.{executable_at}
 use Rattle.orders.specs.declared.row.OrderRow.{OrderRow}
 use Rattle.orders.specs.Rows.{empty_row, with_here}
 use Rattle.orders.specs.Tables.{rest_levels}
-use Rattle.routing.specs.Owed.{executable_of}
 use Rattle.engine.specs.Effects.{ahead_on}
 use Rattle.engine.specs.Stages.{price_of}
 use Rattle.auction.specs.Tallies.{Tally, share_of, handed_out, matchable, executed}
@@ -34,8 +34,8 @@ module _ (g : ℕ → OrderRow → OrderRow) (takes : Takes g) where
   same_trades Sell p n w = ap (λ q. leb q p) ((takes.keeps n).price w)
 
   -- where as many shares are handed out as trade at a price, none is left that does
-  exhausted_side : (side : Side) (p k : ℕ) (ws : List OrderRow) → executable_of side p (rest_levels ws) ≤ k
-      → executable_of side p (rest_levels (handed_out g side k ws)) ≡ 0
+  exhausted_side : (side : Side) (p k : ℕ) (ws : List OrderRow) → executable_at side p (rest_levels ws) ≤ k
+      → executable_at side p (rest_levels (handed_out g side k ws)) ≡ 0
   exhausted_side side p k ws le =
       let after : OrderRow → OrderRow = λ w. g (share_of side k ws w) w in
       let none : (i : ℕ) → i < length ws → rest_part side p (after (get_or ws i empty_row)) ≡ 0 = λ i l.
@@ -51,8 +51,8 @@ module _ (g : ℕ → OrderRow → OrderRow) (takes : Takes g) where
 pub match_exhausts : (y : Tally) → Exhausted (price_of y.stage) (executed (matchable y) y)
 match_exhausts y =
     let p : ℕ = price_of y.stage in
-    let b : ℕ = executable_of Buy p (rest_levels y.buys) in
-    let s : ℕ = executable_of Sell p (rest_levels y.sells) in
+    let b : ℕ = executable_at Buy p (rest_levels y.buys) in
+    let s : ℕ = executable_at Sell p (rest_levels y.sells) in
     elim (cases_lt b s) [
       | inl lt ↦ inl (exhausted_side with_here here_takes Buy p (matchable y) y.buys (omega arith))
       | inr ge ↦ inr (exhausted_side with_here here_takes Sell p (matchable y) y.sells (omega arith))

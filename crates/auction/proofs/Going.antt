@@ -31,23 +31,23 @@ use Rattle.auction.proofs.Changing.{cancel_good, report_good}
 use Rattle.auction.proofs.Ending.{finish_good, abort_good, unpriced_good}
 use Rattle.auction.proofs.Matching.{match_good}
 use Rattle.auction.proofs.Books.{book_sound}
-use Rattle.auction.proofs.Routed.{priced_good}
+use Rattle.auction.proofs.Routed.{priced_good, one_side_by}
 use Rattle.auction.proofs.Outs.{enter_out, cancel_out, finish_out, unpriced_out, abort_out, match_out, ReportGranted, report_out, routed_out}
 
 pub fresh_kept : (issue : Issue) (h : Held) → Kept (made issue) h start
-fresh_kept issue h = record { good = λ k. absurd (false≢true k); fresh = λ k. (refl, refl); out = record { buys = tt; sells = tt } }
+fresh_kept issue h = record { good = λ k. absurd (false≢true k); fresh = λ k. (refl, refl, refl); out = record { buys = tt; sells = tt } }
 
 -- once a cycle has begun
 begun_kept : (e : Engine) (h : Held) (y : Tally) → y.begun ≡ true → Good e h y → Out y → Kept e h y
 begun_kept e h y begun good out = record { good = λ k. good; fresh = λ k. absurd (both_ways y.begun k begun); out = out }
 
-entered_begun : (order : Order) (y : Tally) (t : Bool) → eqb order.side 1 ≡ t → (entered order y).begun ≡ y.begun
+pub entered_begun : (order : Order) (y : Tally) (t : Bool) → eqb order.side 1 ≡ t → (entered order y).begun ≡ y.begun
 entered_begun order y true is = rw is refl
 entered_begun order y false is = rw is refl
 
 module _ (e : Engine) (h : Held) (y : Tally) (kept : Kept e h y) where
   -- a call that an open engine refuses finds a cycle begun
-  begun_by : (call : Call) → stage_fits call e.stage ≡ true → stage_fits call Open ≡ false → y.begun ≡ true
+  pub begun_by : (call : Call) → stage_fits call e.stage ≡ true → stage_fits call Open ≡ false → y.begun ≡ true
   begun_by call fits none =
       elim (cases_Bool y.begun) [
         | inl t ↦ t
@@ -79,7 +79,8 @@ module _ (e : Engine) (m : Market) (h : Held) (y : Tally) (kept : Kept e h y) wh
   close_kept : (time last : ℕ) (x : Outcome) → CloseGranted e m h y last x
       → Kept (close e m h time x).engine (close e m h time x).held (fed y m (Close time last) (close e m h time x).answer)
   close_kept time last (Ok x) g = begun_kept _ _ _ g.begun (priced_good e h y g.good g.accepting m g.fit time last x g.closing)
-      (routed_out y kept.out (g.good.no_tickets g.accepting) g.good.buys.numbered g.good.sells.numbered g.good.apart m x.price (time + ticket_time))
+      (routed_out y kept.out (g.good.no_tickets g.accepting) g.good.buys.numbered g.good.sells.numbered g.good.apart m x.0
+      (one_side_by e h y g.good m last x g.closing) (time + ticket_time))
   close_kept time last (Err Halted) g = begun_kept _ _ _ g.begun (unpriced_good e h y g.good time m g.accepting Halted) (abort_out y kept.out)
   close_kept time last (Err LockedOrCrossed) g = begun_kept _ _ _ g.begun (unpriced_good e h y g.good time m g.accepting LockedOrCrossed) (unpriced_out y kept.out m)
   close_kept time last (Err NothingToTrade) g = begun_kept _ _ _ g.begun (unpriced_good e h y g.good time m g.accepting NothingToTrade) (unpriced_out y kept.out m)

@@ -36,7 +36,7 @@ less_min r n = omega arith
 
 pub out_takes : Takes with_out
 out_takes = record {
-  keeps = λ n. record { number = λ w. refl; class = λ w. refl; price = λ w. refl; whole = λ w h. (stays_whole w h).out n };
+  keeps = λ n. record { number = λ w. refl; class = λ w. refl; price = λ w. refl; shares = λ w. refl; whole = λ w h. (stays_whole w h).out n };
   rest = λ n w. refl;
   most = λ n w. let e = min_min w.rest n in let f = less_min w.rest n in cc;
   empty = λ n. let e : 0 - n ≡ 0 = omega arith in let f : 0 + min n 0 ≡ 0 = omega arith in cc;
@@ -45,7 +45,7 @@ out_takes = record {
 
 pub here_takes : Takes with_here
 here_takes = record {
-  keeps = λ n. record { number = λ w. refl; class = λ w. refl; price = λ w. refl; whole = λ w h. (stays_whole w h).here n };
+  keeps = λ n. record { number = λ w. refl; class = λ w. refl; price = λ w. refl; shares = λ w. refl; whole = λ w h. (stays_whole w h).here n };
   rest = λ n w. refl;
   most = λ n w. let e = min_min w.rest n in let f = less_min w.rest n in cc;
   empty = λ n. let e : 0 - n ≡ 0 = omega arith in let f : 0 + min n 0 ≡ 0 = omega arith in cc;
@@ -75,6 +75,7 @@ module _ (g : ℕ → OrderRow → OrderRow) (takes : Takes g) (side : Side) (k 
     number = λ w. (takes.keeps (share_of side k ws w)).number w;
     class = λ w. (takes.keeps (share_of side k ws w)).class w;
     price = λ w. (takes.keeps (share_of side k ws w)).price w;
+    shares = λ w. (takes.keeps (share_of side k ws w)).shares w;
     whole = λ w h. (takes.keeps (share_of side k ws w)).whole w h;
   }
 

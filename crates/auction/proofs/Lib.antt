@@ -14,9 +14,16 @@ pub mod RankOrder
 pub mod Books
 pub mod Routed
 pub mod Outs
+mod OpenTickets
 pub mod Exhausting
 pub mod Taken
 pub mod Ticketing
 pub mod Going
 pub mod Kept
 pub mod Lawful
+pub mod Tallied
+pub mod Leaving
+pub mod TicketRank
+pub mod Reaching
+pub mod Sending
+pub mod Playing

@@ -12,13 +12,14 @@ use Rattle.orders.specs.declared.row.OrderRow.{OrderRow}
 use Rattle.orders.specs.Rows.{empty_row, is_whole}
 use Rattle.engine.specs.Effects.{ahead_on}
 use Rattle.auction.specs.Laws.{then_empty}
-use Rattle.auction.proofs.Good.{Free, SideGood}
+use Rattle.auction.proofs.Good.{Free, Sized, SideGood}
 use Rattle.auction.proofs.Numbered.{free_mapped, numbers_mapped}
 
 pub record Keeps (g : OrderRow → OrderRow) : Type 0 where
   pub number : (w : OrderRow) → (g w).number ≡ w.number
   pub class : (w : OrderRow) → (g w).class ≡ w.class
   pub price : (w : OrderRow) → (g w).price ≡ w.price
+  pub shares : (w : OrderRow) → (g w).shares ≡ w.shares
   pub whole : (w : OrderRow) → is_whole w ≡ true → is_whole (g w) ≡ true
 
 module _ (g : OrderRow → OrderRow) (keeps : Keeps g) where
@@ -42,6 +43,7 @@ module _ (g : OrderRow → OrderRow) (keeps : Keeps g) where
             ∙ ap (then_empty 512 empty_row) (sym as-ranked);
         whole = All-map (λ w. is_whole w ≡ true) g ws (All-weaker (λ w. is_whole w ≡ true) (λ w. is_whole (g w) ≡ true) keeps.whole ws good.whole);
         priced = All-map (λ w. Permitted w.price) g ws (All-weaker (λ w. Permitted w.price) (λ w. Permitted (g w).price) (λ w k. rw (keeps.price w) k) ws good.priced);
+        sized = All-map Sized g ws (All-weaker Sized (λ w. Sized (g w)) (λ w k. record { number = rw (keeps.number w) k.number; class = rw (keeps.class w) k.class; least = rw (keeps.shares w) k.least; most = rw (keeps.shares w) k.most }) ws good.sized);
         numbered = numbers_mapped g keeps.number ws good.numbered;
       }
 

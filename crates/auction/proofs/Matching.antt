@@ -2,16 +2,21 @@
 use Rattle.std.proofs.Common.{◌≡◌, ℕ, ◌+◌, ◌≤◌, min, sum_by, refl, ap, ◌∙◌, subst, arith}
 use Rattle.std.proofs.lemmas.Bool.{false≢true}
 use Rattle.market.specs.declared.side.Side.TheVariants.{Buy, Sell}
+use Rattle.pricing.specs.Books.{executable_at}
 use Rattle.orders.specs.Rows.{with_here}
 use Rattle.orders.specs.Tables.{rest_levels}
-use Rattle.routing.specs.Owed.{executable_of}
 use Rattle.engine.specs.declared.state.Engine.{Engine}
 use Rattle.engine.specs.Stages.{price_of}
 use Rattle.engine.specs.States.{Held}
 use Rattle.engine.specs.Effects.{to_execute, matched}
 use Rattle.auction.specs.Tallies.{Tally, share_of, matchable, executed}
+use Rattle.auction.specs.Laws.{but_here, Matches}
 use Rattle.auction.proofs.Good.{Good}
 use Rattle.auction.proofs.Handing.{here_takes, side_handed, apart_handed}
+use Rattle.auction.proofs.RankOrder.{executed_in_rank}
+use Rattle.auction.proofs.Reaching.{executed_limits}
+use Rattle.auction.proofs.Exhausting.{match_exhausts}
+use Rattle.auction.proofs.Leaving.{map_kept}
 use Rattle.auction.proofs.Resting.{executable_rows, executable_within, shares_sum}
 
 module _ (e : Engine) (h : Held) (y : Tally) (good : Good e h y) where
@@ -20,8 +25,8 @@ module _ (e : Engine) (h : Held) (y : Tally) (good : Good e h y) where
       let p : ℕ = price_of e.stage in
       let b = executable_rows Buy e.used.buys h.buys y.buys good.buys Buy p in
       let s = executable_rows Sell e.used.sells h.sells y.sells good.sells Sell p in
-      let both : to_execute h p ≡ min (executable_of Buy p (rest_levels y.buys)) (executable_of Sell p (rest_levels y.sells)) = cc in
-      both ∙ ap (λ t. min (executable_of Buy (price_of t) (rest_levels y.buys)) (executable_of Sell (price_of t) (rest_levels y.sells))) good.stage_is
+      let both : to_execute h p ≡ min (executable_at Buy p (rest_levels y.buys)) (executable_at Sell p (rest_levels y.sells)) = cc in
+      both ∙ ap (λ t. min (executable_at Buy (price_of t) (rest_levels y.buys)) (executable_at Sell (price_of t) (rest_levels y.sells))) good.stage_is
 
   -- n shares that both sides have
   even_handed : (n : ℕ) → n ≤ sum_by (λ w. w.rest) y.buys → n ≤ sum_by (λ w. w.rest) y.sells
@@ -33,6 +38,25 @@ module _ (e : Engine) (h : Held) (y : Tally) (good : Good e h y) where
     shares_sum Sell n y.sells good.sells.whole good.sells.numbered,
   )
 
+  -- what a match answers is the smaller of both sides' executable shares, and is bought and sold
+  pub matches : Matches (price_of y.stage) (to_execute h (price_of e.stage)) y (executed (matchable y) y)
+  matches =
+      let n : ℕ = matchable y in
+      let is = executable_matchable in
+      let b = executable_within Buy (price_of y.stage) y.buys in
+      let s = executable_within Sell (price_of y.stage) y.sells in
+      record {
+        smaller = is;
+        rank = executed_in_rank n y;
+        limits = executed_limits y;
+        bought = omega (arith, is, b, shares_sum Buy n y.buys good.buys.whole good.buys.numbered);
+        sold = omega (arith, is, s, shares_sum Sell n y.sells good.sells.whole good.sells.numbered);
+        exhausted = match_exhausts y;
+        buys = map_kept but_here (λ w. with_here (share_of Buy n y.buys w) w) (λ w. refl) y.buys;
+        sells = map_kept but_here (λ w. with_here (share_of Sell n y.sells w) w) (λ w. refl) y.sells;
+        only = refl;
+      }
+
   matched_good : (time n : ℕ) → n ≡ matchable y → Good (matched e h time n).engine (matched e h time n).held (executed n y)
   matched_good time n is = record {
     stage_is = refl;
@@ -41,6 +65,8 @@ module _ (e : Engine) (h : Held) (y : Tally) (good : Good e h y) where
     apart = apart_handed with_here here_takes n n y.buys y.sells good.apart;
     bids_are = good.bids_are;
     offers_are = good.offers_are;
+    bids_used = good.bids_used;
+    offers_used = good.offers_used;
     no_quotes = λ k. absurd (false≢true k);
     tickets_used = good.tickets_used;
     tickets_few = good.tickets_few;

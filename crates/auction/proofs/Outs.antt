@@ -26,8 +26,9 @@ use Rattle.routing.proofs.Tied.{ties_orders, order_tied}
 use Rattle.engine.specs.declared.stage.Stage.TheVariants.{Open}
 use Rattle.engine.specs.Stages.{is_matched}
 use Rattle.engine.specs.Effects.{ahead_on, ranked_bids, ranked_offers, reported}
-use Rattle.auction.specs.Tallies.{Tally, staged, entered, on_number, changed, without_rests, share_of, handed_out, book_by, tickets_by, routed, unrouted, settled, executed}
+use Rattle.auction.specs.Tallies.{Tally, staged, entered, on_number, changed, without_rests, share_of, handed_out, book_by, routed, unrouted, settled, executed}
 use Rattle.auction.specs.Laws.{out_on, settled_row, Settled, OutOnTickets}
+use Rattle.auction.proofs.Routed.{tickets_of, tickets_both}
 use Rattle.auction.proofs.Good.{Numbers, Free, Out}
 use Rattle.auction.proofs.Numbered.{other_way, numbers_ranked}
 use Rattle.auction.proofs.Ranking.{apart_on, sorted_on, distinct_on}
@@ -236,34 +237,44 @@ total_sizes : (xs : List Quote) → total (sizes xs) ≡ sum_by (λ x. x.shares)
 total_sizes [] = refl
 total_sizes (x ∷ xs) = omega (arith, sum_by-cons (λ v. v.shares) x xs, total_sizes xs)
 
+-- the quotes have what is owed to them
+module _ (y : Tally) (m : Market) (p : ℕ) where
+  pub offers_have : owed Buy (book_by y m) p ≤ total (sizes (ranked_offers m))
+  offers_have = omega (arith, total_sizes (ranked_offers m), sum_ranked (quote_ahead lower) (λ x. x.shares) m.offers, owed_quoted Buy p (executable Buy (book_by y m) p) (executable Sell (book_by y m) p) m.offers)
+
+  pub bids_have : owed Sell (book_by y m) p ≤ total (sizes (ranked_bids m))
+  bids_have = omega (arith, total_sizes (ranked_bids m), sum_ranked (quote_ahead higher) (λ x. x.shares) m.bids, owed_quoted Sell p (executable Sell (book_by y m) p) (executable Buy (book_by y m) p) m.bids)
+
 module _ (y : Tally) (out : Out y) (none : y.tickets ≡ []) (buys-numbered : Numbers y.buys) (sells-numbered : Numbers y.sells)
     (apart : AllByRecursion (λ b. Free b.number y.sells) y.buys) (m : Market) (p : ℕ) where
-  buys_enough : owed Buy (book_by y m) p ≤ total (sizes (ranked_offers m))
-  buys_enough = omega (arith, total_sizes (ranked_offers m), sum_ranked (quote_ahead lower) (λ x. x.shares) m.offers, owed_quoted Buy p (executable Buy (book_by y m) p) (executable Sell (book_by y m) p) m.offers)
-
-  sells_enough : owed Sell (book_by y m) p ≤ total (sizes (ranked_bids m))
-  sells_enough = omega (arith, total_sizes (ranked_bids m), sum_ranked (quote_ahead higher) (λ x. x.shares) m.bids, owed_quoted Sell p (executable Sell (book_by y m) p) (executable Buy (book_by y m) p) m.bids)
-
   abbrev ts : List Ticket
-  ts = tickets_by Buy y m p ++ tickets_by Sell y m p
+  ts = tickets_of Buy y m p ++ tickets_of Sell y m p
 
-  on_both : (n : ℕ) → out_on n ts ≡ out_on n (tickets_by Buy y m p) + out_on n (tickets_by Sell y m p)
-  on_both n = sum_by-append (λ t. cond (eqb t.order n && not t.reported) t.shares 0) (tickets_by Buy y m p) (tickets_by Sell y m p)
+  on_both : (n : ℕ) → out_on n ts ≡ out_on n (tickets_of Buy y m p) + out_on n (tickets_of Sell y m p)
+  on_both n = sum_by-append (λ t. cond (eqb t.order n && not t.reported) t.shares 0) (tickets_of Buy y m p) (tickets_of Sell y m p)
 
-  pub routed_out : (deadline : ℕ) → Out (routed p deadline m y)
-  routed_out deadline = record {
-    buys = handed_out_lem Buy (owed Buy (book_by y m) p) y.buys (tickets_by Buy y m p) ts (subst (λ us. AllByRecursion (OutOnTickets us) y.buys) none out.buys)
-        (order_shares Buy (owed Buy (book_by y m) p) y.buys (ranked_offers m) buys-numbered buys_enough)
-        (All-weaker (λ b. Free b.number y.sells) _ (λ b free. omega (
-          arith,
-          on_both b.number,
-          none_named (owed Sell (book_by y m) p) (ranked (ahead_on Sell) y.sells) (ranked_bids m) b.number (all_ranked (ahead_on Sell) (λ s. eqb s.number b.number ≡ false) y.sells free),
-        )) y.buys apart);
-    sells = handed_out_lem Sell (owed Sell (book_by y m) p) y.sells (tickets_by Sell y m p) ts (subst (λ us. AllByRecursion (OutOnTickets us) y.sells) none out.sells)
-        (order_shares Sell (owed Sell (book_by y m) p) y.sells (ranked_bids m) sells-numbered sells_enough)
-        (All-weaker (λ s. Free s.number y.buys) _ (λ s free. omega (
-          arith,
-          on_both s.number,
-          none_named (owed Buy (book_by y m) p) (ranked (ahead_on Buy) y.buys) (ranked_offers m) s.number (all_ranked (ahead_on Buy) (λ b. eqb b.number s.number ≡ false) y.buys free),
-        )) y.sells (apart_too y.buys y.sells apart));
-  }
+  buys_out : AllByRecursion (OutOnTickets ts) (handed_out with_out Buy (owed Buy (book_by y m) p) y.buys)
+  buys_out = handed_out_lem Buy (owed Buy (book_by y m) p) y.buys (tickets_of Buy y m p) ts (subst (λ us. AllByRecursion (OutOnTickets us) y.buys) none out.buys)
+      (order_shares Buy (owed Buy (book_by y m) p) y.buys (ranked_offers m) buys-numbered (offers_have y m p))
+      (All-weaker (λ b. Free b.number y.sells) _ (λ b free. omega (
+        arith,
+        on_both b.number,
+        none_named (owed Sell (book_by y m) p) (ranked (ahead_on Sell) y.sells) (ranked_bids m) b.number (all_ranked (ahead_on Sell) (λ s. eqb s.number b.number ≡ false) y.sells free),
+      )) y.buys apart)
+
+  sells_out : AllByRecursion (OutOnTickets ts) (handed_out with_out Sell (owed Sell (book_by y m) p) y.sells)
+  sells_out = handed_out_lem Sell (owed Sell (book_by y m) p) y.sells (tickets_of Sell y m p) ts (subst (λ us. AllByRecursion (OutOnTickets us) y.sells) none out.sells)
+      (order_shares Sell (owed Sell (book_by y m) p) y.sells (ranked_bids m) sells-numbered (bids_have y m p))
+      (All-weaker (λ s. Free s.number y.buys) _ (λ s free. omega (
+        arith,
+        on_both s.number,
+        none_named (owed Buy (book_by y m) p) (ranked (ahead_on Buy) y.buys) (ranked_offers m) s.number (all_ranked (ahead_on Buy) (λ b. eqb b.number s.number ≡ false) y.buys free),
+      )) y.sells (apart_too y.buys y.sells apart))
+
+  pub routed_out : (0 < owed Buy (book_by y m) p → owed Sell (book_by y m) p ≡ 0) → (deadline : ℕ) → Out (routed p deadline m y)
+  routed_out one deadline =
+      let both = tickets_both y m p one in
+      record {
+        buys = subst (λ us. AllByRecursion (OutOnTickets us) (handed_out with_out Buy (owed Buy (book_by y m) p) y.buys)) both buys_out;
+        sells = subst (λ us. AllByRecursion (OutOnTickets us) (handed_out with_out Sell (owed Sell (book_by y m) p) y.sells)) both sells_out;
+      }

@@ -16,7 +16,7 @@ use Rattle.auction.proofs.Ranking.{apart_on, through_on}
 use Rattle.auction.proofs.Handing.{Takes, here_takes, out_takes}
 
 module _ {E : Type 0} (ahead : E → E → Bool) (size : E → ℕ) (apart : (a b : E) → ahead a b ≡ true → ahead b a ≡ false) where
-  not_itself : (x : E) → ahead x x ≡ false
+  pub not_itself : (x : E) → ahead x x ≡ false
   not_itself x = elim (cases_Bool (ahead x x)) [ inl t ↦ apart x x t | inr f ↦ f ]
 
   -- a test that an entry passes once one passes that it is ahead of

@@ -8,12 +8,12 @@ use Rattle.ranking.proofs.Ranks.{sum_ranked, all_ranked}
 use Rattle.market.specs.declared.side.Side.{Side}
 use Rattle.market.specs.declared.side.Side.TheVariants.{Buy, Sell}
 use Rattle.pricing.proofs.Levels.{sum_by_same}
+use Rattle.pricing.specs.Books.{executable_at}
 use Rattle.orders.specs.declared.row.OrderRow.{OrderRow}
 use Rattle.orders.specs.Rows.{empty_row, is_whole, with_here}
 use Rattle.orders.specs.Tables.{available, rest_levels}
 use Rattle.orders.proofs.Conserved.{rests_fall}
 use Rattle.orders.proofs.Rests.{above_cons, above_none, below_cons, below_none}
-use Rattle.routing.specs.Owed.{executable_of}
 use Rattle.engine.specs.Effects.{ahead_on}
 use Rattle.auction.specs.Tallies.{share_of}
 use Rattle.auction.proofs.Good.{Numbers, SideGood}
@@ -27,7 +27,7 @@ trades Sell p w = leb w.price p
 abbrev pub rest_part : Side → ℕ → OrderRow → ℕ
 rest_part side p w = cond (trades side p w) w.rest 0
 
-pub executable_sum : (side : Side) (p : ℕ) (ws : List OrderRow) → executable_of side p (rest_levels ws) ≡ sum_by (rest_part side p) ws
+pub executable_sum : (side : Side) (p : ℕ) (ws : List OrderRow) → executable_at side p (rest_levels ws) ≡ sum_by (rest_part side p) ws
 executable_sum Buy p [] = above_none p
 executable_sum Buy p (w ∷ ws) = omega (arith, above_cons p w ws, sum_by-cons (rest_part Buy p) w ws, executable_sum Buy p ws)
 executable_sum Sell p [] = below_none p
@@ -37,7 +37,7 @@ part_within : (side : Side) (p : ℕ) (w : OrderRow) → rest_part side p w ≤ 
 part_within Buy p w = grind (arith, nat_tests)
 part_within Sell p w = grind (arith, nat_tests)
 
-pub executable_within : (side : Side) (p : ℕ) (ws : List OrderRow) → executable_of side p (rest_levels ws) ≤ sum_by (λ w. w.rest) ws
+pub executable_within : (side : Side) (p : ℕ) (ws : List OrderRow) → executable_at side p (rest_levels ws) ≤ sum_by (λ w. w.rest) ws
 executable_within side p ws = omega (arith, executable_sum side p ws, sum_by-le-sum_by (rest_part side p) (λ w. w.rest) ws (part_within side p))
 
 -- empty rows add nothing to a sum
@@ -50,14 +50,14 @@ part_empty Buy p = grind (arith, nat_tests)
 part_empty Sell p = grind (arith, nat_tests)
 
 module _ (side : Side) (used : ℕ) (rows ws : List OrderRow) (good : SideGood side used rows ws) where
-  rows_sum : (f : OrderRow → ℕ) → f empty_row ≡ 0 → sum_by f rows ≡ sum_by f ws
+  pub rows_sum : (f : OrderRow → ℕ) → f empty_row ≡ 0 → sum_by f rows ≡ sum_by f ws
   rows_sum f none =
       let rs : List OrderRow = ranked (ahead_on side) ws in
       let es : List OrderRow = replicate (512 - length rs) empty_row in
       ap (sum_by f) good.rows_is
       ∙ omega (arith, sum_by-append f rs es, sum_empty f none (512 - length rs), sum_ranked (ahead_on side) f ws)
 
-  pub executable_rows : (s : Side) (p : ℕ) → executable_of s p (rest_levels rows) ≡ executable_of s p (rest_levels ws)
+  pub executable_rows : (s : Side) (p : ℕ) → executable_at s p (rest_levels rows) ≡ executable_at s p (rest_levels ws)
   executable_rows s p = executable_sum s p rows ∙ rows_sum (rest_part s p) (part_empty s p) ∙ sym (executable_sum s p ws)
 
 -- orders that each give up to their rest
@@ -69,7 +69,7 @@ sum_left g takes h most (w ∷ ws) =
     let f : OrderRow → OrderRow = λ v. g (h v) v in
     omega (arith, sum_by-cons R (f w) (map f ws), sum_by-cons h w ws, sum_by-cons R w ws, takes.rest (h w) w, most w, sum_left g takes h most ws)
 
-sum_available : (ws : List OrderRow) → AllByRecursion (λ w. is_whole w ≡ true) ws → sum_by available ws ≡ sum_by (λ w. w.rest) ws
+pub sum_available : (ws : List OrderRow) → AllByRecursion (λ w. is_whole w ≡ true) ws → sum_by available ws ≡ sum_by (λ w. w.rest) ws
 sum_available ws all = sum_by_same (λ w. is_whole w ≡ true) available (λ w. w.rest) (λ w h. ap (λ t. cond t w.rest 0) h) ws all
 
 -- of k shares as many are handed out as rest, at most k

@@ -3,6 +3,7 @@ use Rattle.std.proofs.Common.{◌≡◌, ℕ, ◌+◌, ◌-◌, List, ◌++◌, 
 use Rattle.std.proofs.lemmas.List.{take_at, drop_at, drop-drop, drop-replicate}
 use Rattle.ranking.specs.Ranked.{ranked}
 use Rattle.ranking.proofs.Listed.{length_ranked}
+use Rattle.market.specs.Markets.{no_quote}
 use Rattle.market.specs.declared.side.Side.{Side}
 use Rattle.orders.specs.declared.row.OrderRow.{OrderRow}
 use Rattle.orders.specs.Rows.{empty_row}
@@ -38,6 +39,12 @@ module _ (side : Side) (used : ℕ) (rows ws : List OrderRow) (good : SideGood s
 
   pub past_use : drop (used + 1) rows ≡ replicate (512 - (used + 1)) empty_row
   past_use = ap (drop (used + 1)) good.rows_is ∙ rows_past 512 empty_row (ranked (ahead_on side) ws) used as_used
+
+pub bids_in_use : (e : Engine) (h : Held) (y : Tally) → Good e h y → take e.used.bids h.bids ≡ y.bids
+bids_in_use e h y good = ap (take e.used.bids) good.bids_are ∙ rows_used 32 no_quote y.bids e.used.bids (sym good.bids_used)
+
+pub offers_in_use : (e : Engine) (h : Held) (y : Tally) → Good e h y → take e.used.offers h.offers ≡ y.offers
+offers_in_use e h y good = ap (take e.used.offers) good.offers_are ∙ rows_used 32 no_quote y.offers e.used.offers (sym good.offers_used)
 
 pub tickets_in_use : (e : Engine) (h : Held) (y : Tally) → Good e h y → tickets_in e h ≡ y.tickets
 tickets_in_use e h y good = ap (take e.used.tickets) good.tickets_are ∙ rows_used 544 empty_ticket y.tickets e.used.tickets (sym good.tickets_used)

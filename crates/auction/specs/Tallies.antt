@@ -8,7 +8,7 @@ use Rattle.market.specs.declared.side.Side.{Side}
 use Rattle.market.specs.declared.side.Side.TheVariants.{Buy, Sell}
 use Rattle.market.specs.Markets.{Market}
 use Rattle.pricing.specs.declared.cause.Cause.TheVariants.{NothingToTrade, LockedOrCrossed, NoReference, Halted}
-use Rattle.pricing.specs.Books.{Book}
+use Rattle.pricing.specs.Books.{Book, executable_at}
 use Rattle.pricing.specs.Closing.{Outcome}
 use Rattle.orders.specs.declared.order.Order.{Order}
 use Rattle.orders.specs.declared.row.OrderRow.{OrderRow}
@@ -16,8 +16,9 @@ use Rattle.orders.specs.Rows.{entered_row, with_cancelled, with_here, with_out, 
 use Rattle.orders.specs.Tables.{rest_levels}
 use Rattle.routing.specs.declared.ticket.Ticket.{Ticket}
 use Rattle.routing.specs.Allotment.{allotted}
-use Rattle.routing.specs.Owed.{executable_of, owed}
-use Rattle.routing.specs.Tickets.{empty_ticket, tickets}
+use Rattle.routing.specs.Owed.{owed}
+use Rattle.routing.specs.Tickets.{empty_ticket}
+use Rattle.routing.specs.Closes.{close_tickets}
 use Rattle.engine.specs.declared.answer.Answer.{Answer}
 use Rattle.engine.specs.declared.answer.Answer.TheVariants.{Done, Cancelled, Priced, Unpriced, Executed}
 use Rattle.engine.specs.declared.call.Call.{Call}
@@ -43,35 +44,17 @@ pub record Tally : Type 0 where
   -- the shares executed here on each side
   pub bought : ℕ
   pub sold : ℕ
+  -- whether a close of the cycle has noted the source's quotes, which each does but that of a halted market
+  pub quotes_noted : Bool
 
 abbrev pub start : Tally
-start = record { begun = false; stage = Open; buys = []; sells = []; bids = []; offers = []; tickets = []; bought = 0; sold = 0 }
+start = record { begun = false; stage = Open; buys = []; sells = []; bids = []; offers = []; tickets = []; bought = 0; sold = 0; quotes_noted = false }
 
 abbrev pub staged : Stage → Tally → Tally
-staged stage y = record {
-  begun = y.begun;
-  stage = stage;
-  buys = y.buys;
-  sells = y.sells;
-  bids = y.bids;
-  offers = y.offers;
-  tickets = y.tickets;
-  bought = y.bought;
-  sold = y.sold;
-}
+staged stage' y = record y { stage = stage' }
 
 abbrev with_orders : List OrderRow → List OrderRow → Tally → Tally
-with_orders buys sells y = record {
-  begun = y.begun;
-  stage = y.stage;
-  buys = buys;
-  sells = sells;
-  bids = y.bids;
-  offers = y.offers;
-  tickets = y.tickets;
-  bought = y.bought;
-  sold = y.sold;
-}
+with_orders buys' sells' y = record y { buys = buys'; sells = sells' }
 
 -- one more order, all of whose shares are rest
 abbrev pub entered : Order → Tally → Tally
@@ -80,7 +63,7 @@ entered o y =
 
 -- a cycle that begins at its stage, with nothing in it yet
 abbrev pub new_cycle : Stage → Tally
-new_cycle stage = record { begun = true; stage = stage; buys = []; sells = []; bids = []; offers = []; tickets = []; bought = 0; sold = 0 }
+new_cycle stage' = record start { begun = true; stage = stage' }
 
 -- a change of the order with a number
 abbrev pub on_number : ℕ → (OrderRow → OrderRow) → List OrderRow → List OrderRow
@@ -104,75 +87,53 @@ handed_out g side k ws = map (λ w. g (share_of side k ws w) w) ws
 abbrev pub book_by : Tally → Market → Book
 book_by y m = record { buys = rest_levels y.buys; sells = rest_levels y.sells; bids = m.bids; offers = m.offers }
 
--- the tickets at a price: the overlaps of the side's orders and the quotes, both in rank order, within what the side owes
-abbrev pub tickets_by : Side → Tally → Market → ℕ → List Ticket
-tickets_by Buy y m price = tickets (owed Buy (book_by y m) price) (ranked (ahead_on Buy) y.buys) (ranked_offers m)
-tickets_by Sell y m price = tickets (owed Sell (book_by y m) price) (ranked (ahead_on Sell) y.sells) (ranked_bids m)
+-- the tickets of a close at a price, by the orders and the quotes in rank order
+abbrev pub tickets_by : Tally → Market → ℕ → List Ticket
+tickets_by y m price =
+    close_tickets (book_by y m) price (ranked (ahead_on Buy) y.buys) (ranked (ahead_on Sell) y.sells) (ranked_bids m) (ranked_offers m)
 
 -- a close that fixed a price: each side routes what it owes
 abbrev pub routed : ℕ → ℕ → Market → Tally → Tally
-routed price deadline m y = record {
-  begun = y.begun;
+routed price deadline m y = record y {
   stage = Satisfaction price deadline;
   buys = handed_out with_out Buy (owed Buy (book_by y m) price) y.buys;
   sells = handed_out with_out Sell (owed Sell (book_by y m) price) y.sells;
   bids = ranked_bids m;
   offers = ranked_offers m;
-  tickets = tickets_by Buy y m price ++ tickets_by Sell y m price;
-  bought = y.bought;
-  sold = y.sold;
+  tickets = tickets_by y m price;
+  quotes_noted = true;
 }
 
 -- a close that fixed no price: the quotes are noted, and there is nothing to match
 abbrev pub unrouted : Market → Tally → Tally
-unrouted m y = record {
-  begun = y.begun;
-  stage = Matched;
-  buys = y.buys;
-  sells = y.sells;
-  bids = ranked_bids m;
-  offers = ranked_offers m;
-  tickets = y.tickets;
-  bought = y.bought;
-  sold = y.sold;
-}
+unrouted m y = record y { stage = Matched; bids = ranked_bids m; offers = ranked_offers m; quotes_noted = true }
 
 abbrev pub closed : ℕ → Market → Outcome → Tally → Tally
 closed time m (Err Halted) y = staged Open (without_rests y)
 closed time m (Err LockedOrCrossed) y = unrouted m y
 closed time m (Err NothingToTrade) y = unrouted m y
 closed time m (Err NoReference) y = unrouted m y
-closed time m (Ok x) y = routed x.price (time + ticket_time) m y
+closed time m (Ok x) y = routed x.0 (time + ticket_time) m y
 
 -- a ticket closed: its order gets what was filled, and the others rest again, or are late once matched
 abbrev pub settled : ℕ → ℕ → Ticket → Tally → Tally
-settled ticket filled t y = record {
-  begun = y.begun;
-  stage = y.stage;
+settled ticket filled t y = record y {
   buys = on_number t.order (with_settled t.shares filled (is_matched y.stage)) y.buys;
   sells = on_number t.order (with_settled t.shares filled (is_matched y.stage)) y.sells;
-  bids = y.bids;
-  offers = y.offers;
   tickets = slice_set y.tickets (ticket - 1) (reported t);
-  bought = y.bought;
-  sold = y.sold;
 }
 
 -- the executable shares of the smaller side at the price
 abbrev pub matchable : Tally → ℕ
 matchable y =
-    min (executable_of Buy (price_of y.stage) (rest_levels y.buys)) (executable_of Sell (price_of y.stage) (rest_levels y.sells))
+    min (executable_at Buy (price_of y.stage) (rest_levels y.buys)) (executable_at Sell (price_of y.stage) (rest_levels y.sells))
 
 -- n shares of each side executed in rank order
 abbrev pub executed : ℕ → Tally → Tally
-executed n y = record {
-  begun = y.begun;
+executed n y = record y {
   stage = Matched;
   buys = handed_out with_here Buy n y.buys;
   sells = handed_out with_here Sell n y.sells;
-  bids = y.bids;
-  offers = y.offers;
-  tickets = y.tickets;
   bought = y.bought + sum_by (share_of Buy n y.buys) y.buys;
   sold = y.sold + sum_by (share_of Sell n y.sells) y.sells;
 }
@@ -192,7 +153,7 @@ granted_to y m (Abort time) x = staged Open (without_rests y)
 abbrev pub outcome_of : Answer → Outcome
 outcome_of Done = Err NothingToTrade
 outcome_of (Cancelled shares) = Err NothingToTrade
-outcome_of (Priced price count tickets') = Ok (record { price = price; count = count })
+outcome_of (Priced price count tickets') = Ok ((price, count))
 outcome_of (Unpriced cause) = Err cause
 outcome_of (Executed shares) = Err NothingToTrade
 

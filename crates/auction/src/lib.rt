@@ -1,3 +1,4 @@
 #![tactic(auto)]
 
 pub mod runs;
+pub mod turns;

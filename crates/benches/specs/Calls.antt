@@ -1,21 +1,20 @@
 -- What the calls that the engine's benchmark measures leave and answer.
-use Rattle.std.specs.Prelude.{◌≡◌, ℕ, ◌+◌, true, false, cond, List, [], ◌∷◌, length, is_ok, Some, Ok, Err, Result, nat_lt}
+use Rattle.std.specs.Prelude.{◌≡◌, ℕ, ◌+◌, true, false, cond, List, [], ◌∷◌, length, is_ok, Some, Result, nat_lt}
 use Rattle.std.specs.List.{slice_get}
 use Rattle.market.specs.declared.quote.Quote.{Quote}
 use Rattle.market.specs.declared.refusal.Refusal.{Refusal}
 use Rattle.market.specs.Markets.{Market}
 use Rattle.market.specs.Venues.{set_answer, after_set}
-use Rattle.market.specs.Refusals.{refusal_number}
 use Rattle.orders.specs.declared.order.Order.{Order}
 use Rattle.orders.specs.declared.row.OrderRow.{OrderRow}
 use Rattle.routing.specs.declared.ticket.Ticket.{Ticket}
 use Rattle.engine.specs.declared.answer.Answer.{Answer}
-use Rattle.engine.specs.declared.answer.Closing.{Closing}
+use Rattle.engine.specs.declared.answer.Numbers.{Numbers}
 use Rattle.engine.specs.declared.call.Call.{Call}
 use Rattle.engine.specs.declared.call.Call.TheVariants.{Begin, Enter}
 use Rattle.engine.specs.declared.stage.Issue.TheVariants.{Ordinary}
 use Rattle.engine.specs.declared.state.Engine.{Engine}
-use Rattle.engine.specs.Answers.{closing_in}
+use Rattle.engine.specs.Answers.{numbers_of}
 use Rattle.engine.specs.Effects.{Left}
 use Rattle.engine.specs.States.{Held, made}
 use Rattle.engine.specs.Steps.{Called}
@@ -27,15 +26,13 @@ lent buys sells bids offers tickets = record { buys = buys; sells = sells; bids 
 
 -- a refusal's number, 0 for none
 abbrev pub number_of : Result Answer Refusal → ℕ
-number_of (Ok answer) = 0
-number_of (Err refusal) = refusal_number refusal
+number_of answer' = (numbers_of answer').refusal
 
-abbrev closed : ℕ → Closing → Closed
-closed refusal c = record { refusal = refusal; cause = c.cause; price = c.price; count = c.count; tickets = c.tickets }
+abbrev closed : Numbers → Closed
+closed n = record { refusal = n.refusal; cause = n.closing.cause; price = n.closing.price; count = n.closing.count; tickets = n.closing.tickets }
 
 abbrev pub closed_by : Result Answer Refusal → Closed
-closed_by (Ok answer) = closed 0 (closing_in answer)
-closed_by (Err refusal) = closed (refusal_number refusal) (record { cause = 0; price = 0; count = 0; tickets = 0 })
+closed_by answer' = closed (numbers_of answer')
 
 -- a market after each quote of a list was set on a side, 1 for bids and 2 for offers
 abbrev pub quoted_on : ℕ → List Quote → Market → Market

@@ -8,7 +8,7 @@ ghost use Rattle.engine.specs.States.{held, SameTables};
 ghost use Rattle.benches.specs.Calls.{lent, number_of, closed_by, quoted_on, market_of, call_with, Brought, Taken, Entered, ClosedSo};
 
 use auction::runs;
-use engine::answer::Answer;
+use engine::answer::{Answer, Numbers};
 use engine::call::{Call, Facts};
 use engine::stage::Issue;
 use engine::state::Engine;
@@ -40,31 +40,20 @@ const ACCEPTANCE: u32 = 500;
 fn number_of(answer: Result<Answer, Refusal>) -> u32
     ensures { result ≡ number_of answer }
 {
-    match answer {
-        Ok(_) => 0,
-        Err(refusal) => u32::from(refusal),
-    }
+    Numbers::from(answer).refusal
 }
 
 impl From<Result<Answer, Refusal>> for Closed {
     ghost from_gives = { λ answer closed. closed ≡ closed_by answer };
 
     fn from(answer: Result<Answer, Refusal>) -> Closed {
-        match answer {
-            Ok(answer) => {
-                let closing = answer.closing();
-                Closed {
-                    refusal: 0,
-                    cause: closing.cause,
-                    price: closing.price,
-                    count: closing.count,
-                    tickets: closing.tickets,
-                }
-            }
-            Err(refusal) => Closed {
-                refusal: u32::from(refusal),
-                ..Closed::default()
-            },
+        let numbers = Numbers::from(answer);
+        Closed {
+            refusal: numbers.refusal,
+            cause: numbers.closing.cause,
+            price: numbers.closing.price,
+            count: numbers.closing.count,
+            tickets: numbers.closing.tickets,
         }
     }
 }

@@ -1,16 +1,20 @@
 // A desk that runs the auction of one security: the engine, its tables, and the table of outside venues.
-ghost use Rattle.std.specs.Prelude.{◌≡◌, false, []};
+ghost use Rattle.std.specs.Prelude.{◌≡◌, ℕ, true, false, [], Ok, Option, IfOk};
 ghost use Rattle.engine.specs.declared.stage.Issue.TheVariants.{Ordinary};
 ghost use Rattle.engine.specs.States.{made};
 ghost use Rattle.engine.specs.Effects.{emptied};
-ghost use Rattle.engine.specs.Outstanding.{outstanding_of};
-ghost use Rattle.engine.specs.Steps.{Called, Untouched};
-ghost use Rattle.auction.specs.Tallies.{Tally};
+ghost use Rattle.engine.specs.Answers.{numbers_of};
+ghost use Rattle.engine.specs.Outstanding.{outstanding_of, Outstanding, outstanding_numbers, NumberedOutstanding};
+ghost use Rattle.engine.specs.Steps.{Called, SameSizes, Untouched, Unread};
+ghost use Rattle.engine.specs.Clock.{Clock};
+ghost use Rattle.engine.specs.Numbered.{Numbered};
+ghost use Rattle.auction.specs.Tallies.{Tally, start};
 ghost use Rattle.auction.specs.Histories.{History};
-ghost use Rattle.auction.specs.Runs.{Lawful};
+ghost use Rattle.auction.specs.Laws.{OpenBy};
+ghost use Rattle.auction.specs.Runs.{Lawful, NoneYet, OpenNow};
 ghost use Rattle.desk.specs.Desks.{rows_of, market_of, left_at};
 
-use auction::runs::call;
+use auction::runs::{call, outstanding};
 use engine::answer::Answer;
 use engine::call::Call;
 use engine::limits::{ORDER_ROWS, QUOTE_ROWS, TICKET_ROWS};
@@ -40,6 +44,7 @@ impl Desk {
         ensures engine { result.engine ≡ made Ordinary }
         ensures market { market_of result ≡ record { bids = []; offers = []; halted = false } }
         ensures rows { rows_of result ≡ emptied (rows_of result) }
+        ensures run { History result.engine (rows_of result) start }
     {
         Desk {
             engine: Engine::new(Issue::Ordinary),
@@ -57,7 +62,11 @@ impl Desk {
     pub fn call(&mut self, asked: Call) -> Result<Answer, Refusal>
         ensures called { Called self.old.engine (market_of self.old) (rows_of self.old) asked (left_at self.new result) }
         ensures refused { Untouched self.old.engine (rows_of self.old) (left_at self.new result) }
+        ensures unread { Unread self.old.engine (market_of self.old) (rows_of self.old) asked (left_at self.new result) }
+        ensures clock { IfOk result (λ answer. Clock self.old.engine asked answer self.new.engine) }
+        ensures numbers { Numbered self.old.engine (market_of self.old) (rows_of self.old) asked (numbers_of result) }
         ensures lawful { (y : Tally) → History self.old.engine (rows_of self.old) y → Lawful y (market_of self.old) asked (left_at self.new result) }
+        ensures sizes { SameSizes (rows_of self.new) (rows_of self.old) }
         ensures venues { self.new.venues ≡ self.old.venues }
     {
         let mut tables = Tables {
@@ -70,9 +79,14 @@ impl Desk {
         call(&mut self.engine, asked, &self.venues, &mut tables)
     }
 
-    // The number of the first ticket that is not yet reported.
+    // The number of the first ticket that is not yet reported, or none where all are.
     pub fn outstanding(&mut self) -> Result<Option<u32>, Refusal>
         ensures is { result ≡ outstanding_of self.old.engine (rows_of self.old) }
+        ensures law { Outstanding self.old.engine (rows_of self.old) result }
+        ensures numbers { NumberedOutstanding self.old.engine (rows_of self.old) (outstanding_numbers result) }
+        ensures fresh { (y : Tally) → History self.old.engine (rows_of self.old) y → y.begun ≡ false → NoneYet self.old.engine (rows_of self.old) result }
+        ensures run { (y : Tally) → History self.old.engine (rows_of self.old) y → (o : Option ℕ) → result ≡ Ok o → OpenBy y o }
+        ensures begun { (y : Tally) → History self.old.engine (rows_of self.old) y → y.begun ≡ true → OpenNow y result }
         ensures same { self.new ≡ self.old }
     {
         let tables = Tables {
@@ -82,6 +96,6 @@ impl Desk {
             offers: &mut self.offers,
             tickets: &mut self.tickets,
         };
-        self.engine.outstanding(&tables)
+        outstanding(&self.engine, &tables)
     }
 }

@@ -6,3 +6,7 @@ pub mod Turning
 pub mod Unread
 pub mod Refusing
 pub mod Sizes
+pub mod Staging
+pub mod Numbering
+pub mod Clock
+pub mod Asking

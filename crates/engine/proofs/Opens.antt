@@ -1,10 +1,10 @@
 -- The first ticket that is not reported.
-use Rattle.std.proofs.Common.{◌≡◌, ℕ, ◌+◌, ◌-◌, ◌<◌, ◌≤◌, Bool, true, false, cond, not, ltb, leb, List, length, get_or, Some, None, Ok, Err, refl, ap, ◌∙◌, arith}
+use Rattle.std.proofs.Common.{◌≡◌, ℕ, ◌+◌, ◌-◌, ◌<◌, ◌≤◌, Bool, true, false, cond, not, ltb, leb, List, length, get_or, Some, None, Ok, Err, Option, refl, sym, ap, ◌∙◌, arith}
 use Rattle.std.specs.List.{prefix_len, position_or_len, position}
 use Rattle.std.specs.Option.{option_map}
 use Rattle.std.proofs.lemmas.List.Sums.{prefix_len_passes, prefix_len_stops}
 use Rattle.std.proofs.lemmas.List.Recursion.{is_position_or_len, and_from_places}
-use Rattle.std.proofs.lemmas.Bool.{and_from, le-leb, ltb-true, ltb-false}
+use Rattle.std.proofs.lemmas.Bool.{and_from, and_parts, leb-true, false≢true, le-leb, ltb-true, ltb-false}
 use Rattle.market.specs.declared.refusal.Refusal.TheVariants.{TableSizes}
 use Rattle.market.specs.Fits.{all_by}
 use Rattle.routing.specs.declared.ticket.Ticket.{Ticket}
@@ -12,7 +12,7 @@ use Rattle.routing.specs.Tickets.{empty_ticket}
 use Rattle.engine.specs.declared.state.Engine.{Engine}
 use Rattle.engine.specs.States.{Held, tickets_in}
 use Rattle.engine.specs.Questions.{sizes_fit}
-use Rattle.engine.specs.Outstanding.{first_open, outstanding_of, OpenTicket, Outstanding}
+use Rattle.engine.specs.Outstanding.{first_open, outstanding_of, OpenTicket, Outstanding, outstanding_numbers, NumberedOutstanding}
 
 -- the tickets before the first that is not reported
 module _ (p : Ticket → Bool) where
@@ -52,3 +52,30 @@ module _ (e : Engine) (h : Held) where
 
   pub outstanding_law : Outstanding e h (outstanding_of e h)
   outstanding_law = answer_by (sizes_fit h) refl
+
+  -- a ticket's number is not 0
+  open_numbers : (o : Option ℕ) → sizes_fit h ≡ true → OpenTicket e h o → NumberedOutstanding e h (outstanding_numbers (Ok o))
+  open_numbers None fit all = record {
+    refusal = sym (ap (λ t. cond t 0 1) fit);
+    refused = λ not. absurd (false≢true (sym not ∙ fit));
+    none = λ _ _. all;
+    unreported = λ _ not_0. absurd (not_0 refl);
+  }
+  open_numbers (Some n) fit is = record {
+    refusal = sym (ap (λ t. cond t 0 1) fit);
+    refused = λ not. absurd (false≢true (sym not ∙ fit));
+    none = λ _ is_0. absurd (omega (arith, leb-true 1 n (and_parts (leb 1 n) (leb n (length ts)) is.0).0));
+    unreported = λ _ _. is;
+  }
+
+  numbers_by : (t : Bool) → sizes_fit h ≡ t → OpenTicket e h (first_open ts) → NumberedOutstanding e h (outstanding_numbers (cond t (Ok (first_open ts)) (Err TableSizes)))
+  numbers_by true fit law = open_numbers (first_open ts) fit law
+  numbers_by false not law = record {
+    refusal = sym (ap (λ t. cond t 0 1) not);
+    refused = λ _. refl;
+    none = λ fit. absurd (false≢true (sym not ∙ fit));
+    unreported = λ fit. absurd (false≢true (sym not ∙ fit));
+  }
+
+  pub outstanding_numbered : NumberedOutstanding e h (outstanding_numbers (outstanding_of e h))
+  outstanding_numbered = numbers_by (sizes_fit h) refl (open_by (ltb (prefix_len (λ x. x.reported) ts) (length ts)) refl)

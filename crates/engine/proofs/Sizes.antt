@@ -32,8 +32,9 @@ use Rattle.engine.specs.Limits.{order_rows, quote_rows, ticket_rows}
 use Rattle.engine.specs.Stages.{is_matched, price_of}
 use Rattle.engine.specs.States.{Held, none_used, buys_in, sells_in}
 use Rattle.engine.specs.Questions.{sizes_fit, questions, ticket_at}
-use Rattle.engine.specs.Effects.{Left, unless, ahead_on, emptied, seated, order_held, changed_in, with_order, book_in, ranked_bids, ranked_offers, written, with_quotes, buy_tickets, sell_tickets, buys_route, with_routed, without_rests, reported, to_execute, close, done}
+use Rattle.engine.specs.Effects.{Left, unless, ahead_on, emptied, seated, order_held, changed_in, with_order, book_in, ranked_bids, ranked_offers, written, with_quotes, tickets_at, with_tickets, with_routed, without_rests, reported, to_execute, close, done}
 use Rattle.engine.specs.Steps.{Called, SameSizes}
+use Rattle.engine.proofs.Routing.{buy_tickets, sell_tickets}
 
 -- the sizes that every granted call finds
 pub record Sizes (h : Held) : Type 0 where
@@ -143,13 +144,18 @@ module _ (e : Engine) (m : Market) (h : Held) (long : Sizes h) (fit : quotes_fit
     few_quotes m.bids (bids_fit m fit),
   )
 
+  tickets_room : (p : ℕ) → length (tickets_at e m h p) ≤ length h.tickets
+  tickets_room p = cond_both (ltb 0 (owed Buy (book_in e m h) p)) (buy_tickets e m h p) (sell_tickets e m h p) (λ ts. length ts ≤ length h.tickets)
+      (λ _. buys_few p)
+      (λ _. sells_few p)
+
   routed_sizes : (p : ℕ) → SameSizes (with_routed e m (with_quotes m h) p) (with_quotes m h)
-  routed_sizes p = cond_both (buys_route e m h p) _ _ (λ x. SameSizes x (with_quotes m h))
-      (λ _. record { buys = length_handed with_out _ h.buys; sells = refl; bids = refl; offers = refl; tickets = length_written (buy_tickets e m h p) h.tickets (buys_few p) })
-      (λ _. record { buys = refl; sells = length_handed with_out _ h.sells; bids = refl; offers = refl; tickets = length_written (sell_tickets e m h p) h.tickets (sells_few p) })
+  routed_sizes p = cond_both (ltb 0 (owed Buy (book_in e m h) p)) _ _ (λ x. SameSizes (with_tickets (tickets_at e m h p) x) (with_quotes m h))
+      (λ _. record { buys = length_handed with_out _ h.buys; sells = refl; bids = refl; offers = refl; tickets = length_written (tickets_at e m h p) h.tickets (tickets_room p) })
+      (λ _. record { buys = refl; sells = length_handed with_out _ h.sells; bids = refl; offers = refl; tickets = length_written (tickets_at e m h p) h.tickets (tickets_room p) })
 
   close_sizes : (time : ℕ) (x : Outcome) → SameSizes (close e m h time x).held h
-  close_sizes time (Ok x) = sizes_on (routed_sizes x.price) quotes_sizes
+  close_sizes time (Ok x) = sizes_on (routed_sizes x.0) quotes_sizes
   close_sizes time (Err Halted) = rests_sizes h
   close_sizes time (Err LockedOrCrossed) = quotes_sizes
   close_sizes time (Err NothingToTrade) = quotes_sizes

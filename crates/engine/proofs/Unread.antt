@@ -1,5 +1,5 @@
--- While the engine is open, what the rows hold changes neither the engine nor the answer of a call.
-use Rattle.std.proofs.Common.{◌≡◌, Bool, true, false, cond, Some, None, Option, sym, refl, ap, ◌∙◌}
+-- While the engine is open, what the rows hold changes neither the engine nor the answer of a call, nor what a granted one leaves.
+use Rattle.std.proofs.Common.{◌≡◌, Bool, true, false, cond, is_ok, Some, None, Option, sym, refl, ap, ◌∙◌}
 use Rattle.std.proofs.lemmas.Bool.{false≢true}
 use Rattle.market.specs.declared.refusal.Refusal.{Refusal}
 use Rattle.market.specs.declared.refusal.Refusal.TheVariants.{TableSizes, WrongStage}
@@ -12,10 +12,10 @@ use Rattle.engine.specs.declared.stage.Stage.{Stage}
 use Rattle.engine.specs.declared.stage.Stage.TheVariants.{Open, Acceptance, Satisfaction, Matched}
 use Rattle.engine.specs.declared.state.Engine.{Engine}
 use Rattle.engine.specs.Stages.{is_open}
-use Rattle.engine.specs.States.{Held}
 use Rattle.engine.specs.Questions.{sizes_fit, stage_fits, own_questions, questions}
-use Rattle.engine.specs.Effects.{Left, unless, done}
-use Rattle.engine.specs.Steps.{Called, SameSizes, Unread}
+use Rattle.engine.specs.States.{Held, none_used}
+use Rattle.engine.specs.Effects.{Left, unless, emptied, order_held, done}
+use Rattle.engine.specs.Steps.{Called, SameSizes, Alike, Unread}
 
 open_is : (s : Stage) → is_open s ≡ true → s ≡ Open
 open_is Open is = refl
@@ -23,15 +23,15 @@ open_is (Acceptance closes) is = absurd (false≢true is)
 open_is (Satisfaction price deadline) is = absurd (false≢true is)
 open_is Matched is = absurd (false≢true is)
 
-sizes_same : (h h' : Held) → SameSizes h h' → sizes_fit h ≡ sizes_fit h'
+pub sizes_same : (h h' : Held) → SameSizes h h' → sizes_fit h ≡ sizes_fit h'
 sizes_same h h' same = rw (same.buys, same.sells, same.bids, same.offers, same.tickets) refl
 
-abbrev Same : Left → Left → Type 0
-Same l l' = (l.engine ≡ l'.engine) × (l.answer ≡ l'.answer)
+emptied_same : (h h' : Held) → SameSizes h h' → emptied h ≡ emptied h'
+emptied_same h h' same = rw (same.buys, same.sells, same.bids, same.offers, same.tickets) refl
 
--- alike refused, or granted with the same engine and answer
-unless_same : (r : Option Refusal) (e : Engine) (h h' : Held) (l l' : Left) → Same l l' → Same (unless r e h l) (unless r e h' l')
-unless_same (Some refusal) e h h' l l' same = (refl, refl)
+-- alike refused, or granted alike
+unless_same : (r : Option Refusal) (e : Engine) (h h' : Held) (l l' : Left) → Alike l l' → Alike (unless r e h l) (unless r e h' l')
+unless_same (Some refusal) e h h' l l' same = (refl, refl, λ ok. absurd (false≢true ok))
 unless_same None e h h' l l' same = same
 
 module _ (e : Engine) (m : Market) (is : is_open e.stage ≡ true) where
@@ -50,16 +50,17 @@ module _ (e : Engine) (m : Market) (is : is_open e.stage ≡ true) where
     abbrev leaves : Held → Call → Outcome → Left
     leaves g call z = unless (first_no (questions e m g call)) e g (done e m g call z)
 
-    refused_same : (call : Call) → stage_fits call Open ≡ false → Same (leaves h call x) (leaves h' call x')
+    refused_same : (call : Call) → stage_fits call Open ≡ false → Alike (leaves h call x) (leaves h' call x')
     refused_same call none =
         let one = refusal_is h call none in
         let other = refusal_is h' call none ∙ ap (λ t. Some (cond t WrongStage TableSizes)) (sym (sizes_same h h' same)) in
-        rw (one, other) (refl, refl)
+        rw (one, other) (refl, refl, λ ok. absurd (false≢true ok))
 
-    called_same : (call : Call) → Same (leaves h call x) (leaves h' call x')
+    called_same : (call : Call) → Alike (leaves h call x) (leaves h' call x')
     called_same (Begin time order facts) =
         let fits = sizes_same h h' same in
-        rw fits (unless_same (first_no (questions e m h' (Begin time order facts))) e h h' _ _ (refl, refl))
+        let rows = ap (order_held order none_used) (sym (emptied_same h h' same)) in
+        rw fits (unless_same (first_no (questions e m h' (Begin time order facts))) e h h' _ _ (refl, refl, λ ok. rows))
     called_same (Enter order) = refused_same (Enter order) refl
     called_same (Cancel number) = refused_same (Cancel number) refl
     called_same (Close time last) = refused_same (Close time last) refl
@@ -68,11 +69,10 @@ module _ (e : Engine) (m : Market) (is : is_open e.stage ≡ true) where
     called_same (Finish time) = refused_same (Finish time) refl
     called_same (Abort time) = refused_same (Abort time) refl
 
-unread : (e : Engine) (m : Market) (h h' : Held) (call : Call) (left left' : Left) → is_open e.stage ≡ true → SameSizes h h'
-    → Called e m h call left → Called e m h' call left' → (left.engine ≡ left'.engine) × (left.answer ≡ left'.answer)
-unread e m h h' call left left' is same c c' =
-    let both = called_same e m is h h' same c.outcome c'.outcome call in
-    (ap (λ l. l.engine) c.is ∙ both.0 ∙ sym (ap (λ l. l.engine) c'.is), ap (λ l. l.answer) c.is ∙ both.1 ∙ sym (ap (λ l. l.answer) c'.is))
-
 pub call_unread : (e : Engine) (m : Market) (h : Held) (call : Call) (left : Left) → Called e m h call left → Unread e m h call left
-call_unread e m h call left c is h' left' same c' = let both = unread e m h h' call left left' is same c c' in (sym both.0, sym both.1)
+call_unread e m h call left c is h' left' same c' =
+    let both = called_same e m is h h' same c.outcome c'.outcome call in (
+      ap (λ l. l.engine) c'.is ∙ both.0 ∙ sym (ap (λ l. l.engine) c.is),
+      ap (λ l. l.answer) c'.is ∙ both.1 ∙ sym (ap (λ l. l.answer) c.is),
+      λ ok. ap (λ l. l.held) c'.is ∙ both.2 (sym (ap (λ l. is_ok l.answer) c.is) ∙ ok) ∙ sym (ap (λ l. l.held) c.is),
+    )

@@ -1,9 +1,12 @@
 -- The numbers that stand for stages and answers.
-use Rattle.std.specs.Prelude.{ℕ}
+use Rattle.std.specs.Prelude.{ℕ, Some, None, Ok, Err, Option, Result}
+use Rattle.market.specs.declared.refusal.Refusal.{Refusal}
+use Rattle.market.specs.Refusals.{refusal_number, answer_number}
 use Rattle.pricing.specs.Closing.{cause_number}
 use Rattle.engine.specs.declared.answer.Answer.{Answer}
 use Rattle.engine.specs.declared.answer.Answer.TheVariants.{Done, Cancelled, Priced, Unpriced, Executed}
 use Rattle.engine.specs.declared.answer.Closing.{Closing}
+use Rattle.engine.specs.declared.answer.Numbers.{Numbers}
 use Rattle.engine.specs.declared.stage.Stage.{Stage}
 use Rattle.engine.specs.declared.stage.Stage.TheVariants.{Open, Acceptance, Satisfaction, Matched}
 
@@ -13,21 +16,33 @@ stage_number (Acceptance closes) = 1
 stage_number (Satisfaction price deadline) = 2
 stage_number Matched = 3
 
--- the shares that a cancel, a match or an abort answers; 0 of another call
-abbrev pub shares_in : Answer → ℕ
-shares_in Done = 0
-shares_in (Cancelled shares) = shares
-shares_in (Priced price count tickets) = 0
-shares_in (Unpriced cause) = 0
-shares_in (Executed shares) = shares
-
--- what a close answers: 0 with price, count and the number of tickets, or a cause's number with zeros
-abbrev closing : ℕ → ℕ → ℕ → ℕ → Closing
+-- what a close answers in numbers: its cause, 0 with price, count and the number of tickets, or another with zeros
+abbrev pub closing : ℕ → ℕ → ℕ → ℕ → Closing
 closing cause price count tickets = record { cause = cause; price = price; count = count; tickets = tickets }
 
+abbrev pub no_closing : Closing
+no_closing = closing 0 0 0 0
+
+abbrev pub numbers : ℕ → ℕ → Closing → Numbers
+numbers refusal shares closing' = record { refusal = refusal; shares = shares; closing = closing' }
+
+-- the numbers of a whole answer: that of the refusal, or 0 with what a call of its kind answers; all else is 0
+abbrev pub numbers_of : Result Answer Refusal → Numbers
+numbers_of (Err refusal) = numbers (answer_number {A = Answer} (Err refusal)) 0 no_closing
+numbers_of (Ok Done) = numbers 0 0 no_closing
+numbers_of (Ok (Cancelled shares)) = numbers 0 shares no_closing
+numbers_of (Ok (Priced price count tickets)) = numbers 0 0 (closing 0 price count tickets)
+numbers_of (Ok (Unpriced cause)) = numbers 0 0 (closing (cause_number cause) 0 0 0)
+numbers_of (Ok (Executed shares)) = numbers 0 shares no_closing
+
+-- the number of the refusal that a call meets: 0 where it is granted
+abbrev pub met_number : Option Refusal → ℕ
+met_number None = 0
+met_number (Some refusal) = refusal_number refusal
+
+-- of a call that was granted
+abbrev pub shares_in : Answer → ℕ
+shares_in answer' = (numbers_of (Ok answer')).shares
+
 abbrev pub closing_in : Answer → Closing
-closing_in Done = closing 0 0 0 0
-closing_in (Cancelled shares) = closing 0 0 0 0
-closing_in (Priced price count tickets) = closing 0 price count tickets
-closing_in (Unpriced cause) = closing (cause_number cause) 0 0 0
-closing_in (Executed shares) = closing 0 0 0 0
+closing_in answer' = (numbers_of (Ok answer')).closing

@@ -19,6 +19,7 @@ use Rattle.orders.specs.Tables.{place_of, rest_levels, available, if_whole, chan
 use Rattle.routing.specs.declared.ticket.Ticket.{Ticket}
 use Rattle.routing.specs.Owed.{owed}
 use Rattle.routing.specs.Tickets.{empty_ticket, tickets}
+use Rattle.routing.specs.Closes.{close_tickets}
 use Rattle.engine.specs.declared.answer.Answer.{Answer}
 use Rattle.engine.specs.declared.answer.Answer.TheVariants.{Done, Cancelled, Priced, Unpriced, Executed}
 use Rattle.engine.specs.declared.call.Call.{Call}
@@ -158,33 +159,26 @@ abbrev pub quotes_used : Market → ℕ → Used → Used
 quotes_used m tickets' used =
     record { buys = used.buys; sells = used.sells; bids = length m.bids; offers = length m.offers; tickets = tickets' }
 
--- what each side owes at a price, and its tickets: the buys' go to offers, the sells' to bids, and only one side routes
-abbrev pub buy_tickets : Engine → Market → Held → ℕ → List Ticket
-buy_tickets e m h price = tickets (owed Buy (book_in e m h) price) (buys_in e h) (ranked_offers m)
-
-abbrev pub sell_tickets : Engine → Market → Held → ℕ → List Ticket
-sell_tickets e m h price = tickets (owed Sell (book_in e m h) price) (sells_in e h) (ranked_bids m)
-
-abbrev pub buys_route : Engine → Market → Held → ℕ → Bool
-buys_route e m h price = nat_lt 0 (owed Buy (book_in e m h) price)
-
+-- the tickets that a close at a price writes
 abbrev pub tickets_at : Engine → Market → Held → ℕ → List Ticket
-tickets_at e m h price = cond (buys_route e m h price) (buy_tickets e m h price) (sell_tickets e m h price)
+tickets_at e m h price = close_tickets (book_in e m h) price (buys_in e h) (sells_in e h) (ranked_bids m) (ranked_offers m)
+
+abbrev pub with_tickets : List Ticket → Held → Held
+with_tickets ts h = record { buys = h.buys; sells = h.sells; bids = h.bids; offers = h.offers; tickets = written ts h.tickets }
 
 -- k shares of a side go from rest to out
 abbrev pub shares_out : Side → ℕ → Held → Held
 shares_out Buy k h = with_sides (handed with_out k h.buys) h.sells h
 shares_out Sell k h = with_sides h.buys (handed with_out k h.sells) h
 
--- with them the tickets
-abbrev pub side_out : Side → ℕ → List Ticket → Held → Held
-side_out side k ts h = shares_out side k (record { buys = h.buys; sells = h.sells; bids = h.bids; offers = h.offers; tickets = written ts h.tickets })
+-- what a side owes at a price goes out
+abbrev pub owed_out : Side → Engine → Market → Held → ℕ → Held
+owed_out side e m h price = shares_out side (owed side (book_in e m h) price) h
 
+-- the tickets are written, and what the buys owe goes out, or what the sells owe where the buys owe nothing
 abbrev pub with_routed : Engine → Market → Held → ℕ → Held
 with_routed e m h price =
-    cond (buys_route e m h price)
-    (side_out Buy (owed Buy (book_in e m h) price) (buy_tickets e m h price) h)
-    (side_out Sell (owed Sell (book_in e m h) price) (sell_tickets e m h price) h)
+    with_tickets (tickets_at e m h price) (cond (nat_lt 0 (owed Buy (book_in e m h) price)) (owed_out Buy e m h price) (owed_out Sell e m h price))
 
 -- the tickets of k shares of the rows in use of a side and the first n rows of its quote table
 abbrev pub drawn : Side → ℕ → ℕ → Used → Held → List Ticket
@@ -202,9 +196,9 @@ close e m h time (Err LockedOrCrossed) = unpriced e m h time LockedOrCrossed
 close e m h time (Err NothingToTrade) = unpriced e m h time NothingToTrade
 close e m h time (Err NoReference) = unpriced e m h time NoReference
 close e m h time (Ok x) =
-    granted (staged (Satisfaction x.price (time + ticket_time)) time (quotes_used m (length (tickets_at e m h x.price)) e.used) e)
-    (with_routed e m (with_quotes m h) x.price)
-    (Priced x.price x.count (length (tickets_at e m h x.price)))
+    granted (staged (Satisfaction x.0 (time + ticket_time)) time (quotes_used m (length (tickets_at e m h x.0)) e.used) e)
+    (with_routed e m (with_quotes m h) x.0)
+    (Priced x.0 x.1 (length (tickets_at e m h x.0)))
 
 -- report: the ticket is marked, and settled on its order: what is not filled rests again, or is late once matched
 abbrev pub reported : Ticket → Ticket

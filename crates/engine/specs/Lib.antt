@@ -9,3 +9,6 @@ pub mod Lent
 pub mod Books
 pub mod Effects
 pub mod Steps
+pub mod Clock
+pub mod Numbered
+pub mod Laws

@@ -1,5 +1,5 @@
 -- The limits of the engine, each once. Times are milliseconds since midnight.
-use Rattle.std.specs.Prelude.{ℕ}
+use Rattle.std.specs.Prelude.{ℕ, ◌+◌}
 use Rattle.market.specs.Limits.{most_orders, most_quotes}
 
 -- how many rows the tables have: orders on a side, quotes on a side, tickets
@@ -10,7 +10,7 @@ abbrev pub quote_rows : ℕ
 quote_rows = most_quotes
 
 abbrev pub ticket_rows : ℕ
-ticket_rows = 544
+ticket_rows = order_rows + quote_rows
 
 -- the last millisecond of the day
 abbrev pub day_end : ℕ

@@ -180,6 +180,10 @@ own_questions e m h (Match time) = match_questions e h time
 own_questions e m h (Finish time) = asks (time_fits e time) TimeRange ∷ []
 own_questions e m h (Abort time) = asks (time_fits e time) TimeRange ∷ []
 
+-- the stage first
+abbrev pub stage_questions : Engine → Market → Held → Call → List Question
+stage_questions e m h call = asks (stage_fits call e.stage) WrongStage ∷ own_questions e m h call
+
 -- the questions of a call: the sizes of the tables, the stage, and its own
 abbrev pub questions : Engine → Market → Held → Call → List Question
-questions e m h call = asks (sizes_fit h) TableSizes ∷ asks (stage_fits call e.stage) WrongStage ∷ own_questions e m h call
+questions e m h call = asks (sizes_fit h) TableSizes ∷ stage_questions e m h call

@@ -51,8 +51,11 @@ pub record SameSizes (h h' : Held) : Type 0 where
 abbrev pub Untouched : Engine → Held → Left → Type 0
 Untouched e h left = is_ok left.answer ≡ false → (left.engine ≡ e) × (left.held ≡ h)
 
--- until the first granted begin the engine is open: then neither the engine nor the answer depends on what a row holds
+-- two calls end alike: the same engine and the same answer, and where it was granted the same rows in all tables
+abbrev pub Alike : Left → Left → Type 0
+Alike l l' = (l'.engine ≡ l.engine) × (l'.answer ≡ l.answer) × (is_ok l.answer ≡ true → l'.held ≡ l.held)
+
+-- until the first granted begin the engine is open: then nothing that a call leaves depends on what a row held, but that a
+-- refused one leaves the rows as they are
 abbrev pub Unread : Engine → Market → Held → Call → Left → Type 0
-Unread e m h call left =
-    is_open e.stage ≡ true → (h' : Held) (left' : Left) → SameSizes h h' → Called e m h' call left'
-    → (left'.engine ≡ left.engine) × (left'.answer ≡ left.answer)
+Unread e m h call left = is_open e.stage ≡ true → (h' : Held) (left' : Left) → SameSizes h h' → Called e m h' call left' → Alike left left'

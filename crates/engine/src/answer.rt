@@ -1,7 +1,8 @@
 // What a granted call answers, and the numbers that stand for it.
 ghost use Rattle.std.specs.Prelude.{◌≡◌};
-ghost use Rattle.engine.specs.Answers.{shares_in, closing_in};
+ghost use Rattle.engine.specs.Answers.{shares_in, closing_in, numbers_of};
 
+use market::refusal::Refusal;
 use pricing::cause::Cause;
 
 #[derive(Clone, Copy, Debug, PartialEq, Eq)]
@@ -69,6 +70,33 @@ impl Answer {
                 ..Closing::default()
             },
             _ => Closing::default(),
+        }
+    }
+}
+
+// The numbers of a whole answer, for a venue that keeps answers so. What a call of its kind does not answer is 0.
+#[derive(Clone, Copy, Debug, Default, PartialEq, Eq)]
+pub struct Numbers {
+    // Of the refusal; 0 where the call was granted, and then the others say what it answers.
+    pub refusal: u32,
+    pub shares: u64,
+    pub closing: Closing,
+}
+
+impl From<Result<Answer, Refusal>> for Numbers {
+    ghost from_gives = { λ answer numbers. numbers ≡ numbers_of answer };
+
+    fn from(answer: Result<Answer, Refusal>) -> Numbers {
+        match answer {
+            Ok(answer) => Numbers {
+                refusal: 0,
+                shares: answer.shares(),
+                closing: answer.closing(),
+            },
+            Err(refusal) => Numbers {
+                refusal: u32::from(refusal),
+                ..Numbers::default()
+            },
         }
     }
 }

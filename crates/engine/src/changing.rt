@@ -1,7 +1,6 @@
 // Cancel and report: changes of one order.
 ghost use Rattle.std.specs.Prelude.{◌≡◌, ◌-◌, take, slice_set};
 ghost use Rattle.orders.specs.Rows.{with_cancelled, with_settled};
-ghost use Rattle.engine.specs.Stages.{is_matched};
 ghost use Rattle.engine.specs.Lent.{held_in, SameFitted};
 ghost use Rattle.engine.specs.Questions.{stands_at, ticket_at};
 ghost use Rattle.engine.specs.Effects.{granted, with_order, with_reported, reported, cancel, report};
@@ -86,11 +85,16 @@ impl Engine {
     }
 
     // Shares that a report leaves unfilled rest again, or are late once the cycle is matched.
-    pub(crate) fn report(&self, ticket: u32, filled: u32, tables: &mut Fitted<'_>) -> Answer
-        ensures step { granted self.now (held_in tables.new) result ≡ report self.now (held_in tables.old) ticket filled (is_matched self.now.stage) }
+    pub(crate) fn report(
+        &self,
+        ticket: u32,
+        filled: u32,
+        late: bool,
+        tables: &mut Fitted<'_>,
+    ) -> Answer
+        ensures step { granted self.now (held_in tables.new) result ≡ report self.now (held_in tables.old) ticket filled late }
         ensures names { SameFitted tables.old tables.new }
     {
-        let late = self.stage.is_matched();
         self.close_ticket(ticket, filled, late, tables);
         Answer::Done
     }

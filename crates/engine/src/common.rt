@@ -16,7 +16,7 @@ use market::refusal::Refusal;
 use market::side::Side;
 use orders::record::OrderRecord;
 use orders::row::OrderRow;
-use orders::side::find;
+use orders::side::{find, has_number};
 use ranking::rows::first_rows;
 use routing::ticket::Ticket;
 
@@ -80,6 +80,14 @@ fn all_reported(tickets: &[Ticket]) -> bool
 }
 
 impl Engine {
+    // Whether an order with a number stands on a side of the book.
+    pub(crate) fn is_on_book(&self, tables: &Tables<'_>, number: u32) -> bool
+        ensures { result ≡ on_book self.now (held tables.now) number }
+    {
+        has_number(first_rows(&*tables.buys, self.used.buys), number)
+            || has_number(first_rows(&*tables.sells, self.used.sells), number)
+    }
+
     // The rest of the order with a number, where it stands on a side of the book.
     pub(crate) fn rest(&self, tables: &Tables<'_>, number: u32) -> Option<u32>
         ensures found { is_some result ≡ on_book self.now (held tables.now) number }

@@ -1,9 +1,8 @@
 // Match, finish and abort: how a cycle comes to its end.
-ghost use Rattle.std.specs.Prelude.{◌≡◌, true};
+ghost use Rattle.std.specs.Prelude.{◌≡◌};
 ghost use Rattle.orders.specs.Rows.{with_here};
 ghost use Rattle.orders.specs.Tables.{handed};
 ghost use Rattle.engine.specs.declared.answer.Answer.TheVariants.{Done, Cancelled};
-ghost use Rattle.engine.specs.Stages.{is_satisfaction, price_of};
 ghost use Rattle.engine.specs.Lent.{held_in, SameFitted};
 ghost use Rattle.engine.specs.Effects.{granted, ended, with_sides, without_rests, all_rests, to_execute, matched};
 
@@ -56,14 +55,10 @@ impl Engine {
     }
 
     // Executes what both sides can trade at the price that was fixed.
-    pub(crate) fn match_sides(&mut self, time: u32, tables: &mut Fitted<'_>) -> Answer
-        requires stage { is_satisfaction self.old.stage ≡ true }
-        ensures step { granted self.new (held_in tables.new) result ≡ matched self.old (held_in tables.old) time (to_execute (held_in tables.old) (price_of self.old.stage)) }
+    pub(crate) fn match_sides(&mut self, price: u32, time: u32, tables: &mut Fitted<'_>) -> Answer
+        ensures step { granted self.new (held_in tables.new) result ≡ matched self.old (held_in tables.old) time (to_execute (held_in tables.old) price) }
         ensures names { SameFitted tables.old tables.new }
     {
-        let Stage::Satisfaction { price, .. } = self.stage else {
-            unreachable!();
-        };
         let shares = tables.matchable(price);
         tables.execute(shares);
         self.stage = Stage::Matched;

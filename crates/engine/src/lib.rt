@@ -10,6 +10,7 @@ pub mod common;
 pub mod ending;
 pub mod entering;
 pub mod fitted;
+pub mod laws;
 pub mod limits;
 pub mod listed;
 pub mod minimum;

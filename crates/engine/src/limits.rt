@@ -6,7 +6,7 @@ pub const ORDER_ROWS: usize = MOST_ORDERS;
 
 pub const QUOTE_ROWS: usize = MOST_QUOTES;
 
-pub const TICKET_ROWS: usize = 544;
+pub const TICKET_ROWS: usize = ORDER_ROWS + QUOTE_ROWS;
 
 // The last millisecond of the day.
 pub const DAY_END: u32 = 86_399_999;

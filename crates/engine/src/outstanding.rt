@@ -1,8 +1,9 @@
 // A ticket that is not yet reported.
 ghost use Rattle.std.specs.Prelude.{◌≡◌, ◌≤◌, not, length};
 ghost use Rattle.std.specs.List.{position};
+ghost use Rattle.engine.specs.Limits.{ticket_rows};
 ghost use Rattle.engine.specs.States.{held};
-ghost use Rattle.engine.specs.Outstanding.{first_open, outstanding_of, Outstanding};
+ghost use Rattle.engine.specs.Outstanding.{first_open, outstanding_of, Outstanding, outstanding_numbers, NumberedOutstanding};
 
 use crate::state::Engine;
 use crate::tables::Tables;
@@ -20,11 +21,35 @@ fn first_place(tickets: &[Ticket]) -> Option<usize>
 // Its number, counted from 1.
 #[tactic(auto, using(crate::proofs::Opens::first_open_at))]
 fn first_open(tickets: &[Ticket]) -> Option<u32>
-    requires { length tickets.now ≤ 544 }
+    requires { length tickets.now ≤ ticket_rows }
     ensures { result ≡ first_open tickets.now }
 {
     let place = first_place(tickets)?;
     Some(place as u32 + 1)
+}
+
+// The numbers of what it answers, for a venue that keeps answers so: that of the refusal, or 0 and the ticket's, 0 for none.
+#[derive(Clone, Copy, Debug, Default, PartialEq, Eq)]
+pub struct OutstandingNumbers {
+    pub refusal: u32,
+    pub ticket: u32,
+}
+
+impl From<Result<Option<u32>, Refusal>> for OutstandingNumbers {
+    ghost from_gives = { λ answer numbers. numbers ≡ outstanding_numbers answer };
+
+    fn from(answer: Result<Option<u32>, Refusal>) -> OutstandingNumbers {
+        match answer {
+            Ok(ticket) => OutstandingNumbers {
+                refusal: 0,
+                ticket: ticket.unwrap_or(0),
+            },
+            Err(refusal) => OutstandingNumbers {
+                refusal: u32::from(refusal),
+                ticket: 0,
+            },
+        }
+    }
 }
 
 impl Engine {
@@ -42,6 +67,7 @@ impl Engine {
     pub fn outstanding(&self, tables: &Tables<'_>) -> Result<Option<u32>, Refusal>
         ensures is { result ≡ outstanding_of self.now (held tables.now) }
         ensures law { Outstanding self.now (held tables.now) result }
+        ensures numbers { NumberedOutstanding self.now (held tables.now) (outstanding_numbers result) }
     {
         self.first_outstanding(tables)
     }

@@ -4,7 +4,10 @@ ghost use Rattle.std.specs.Prelude.{◌≡◌};
 ghost use Rattle.std.specs.Result.{result_err};
 ghost use Rattle.market.specs.Questions.{first_no};
 ghost use Rattle.engine.specs.States.{held};
-ghost use Rattle.engine.specs.Questions.{stage_fits, enter_questions, cancel_questions, close_questions, match_questions, own_questions, questions};
+ghost use Rattle.engine.specs.Questions.{enter_questions, cancel_questions, close_questions, match_questions, stage_questions, questions};
+ghost use Rattle.engine.specs.Stages.{closes_at, deadline_of};
+ghost use Rattle.engine.specs.Answers.{met_number};
+ghost use Rattle.engine.specs.Numbered.{numbered, first_number};
 
 use crate::call::Call;
 use crate::limits::ORDER_ROWS;
@@ -18,35 +21,12 @@ use market::side::Side;
 use market::source::QuoteSource;
 use orders::order::Order;
 
-// Whether a call may come in a stage.
-fn stage_fits(call: Call, stage: Stage) -> bool
-    ensures { result ≡ stage_fits call stage }
-{
-    matches!(
-        (call, stage),
-        (Call::Begin { .. }, Stage::Open)
-            | (Call::Enter { .. }, Stage::Acceptance { .. })
-            | (Call::Cancel { .. }, Stage::Acceptance { .. })
-            | (Call::Close { .. }, Stage::Acceptance { .. })
-            | (
-                Call::Report { .. },
-                Stage::Satisfaction { .. } | Stage::Matched
-            )
-            | (Call::Match { .. }, Stage::Satisfaction { .. })
-            | (Call::Finish { .. }, Stage::Matched)
-            | (
-                Call::Abort { .. },
-                Stage::Acceptance { .. } | Stage::Satisfaction { .. } | Stage::Matched
-            )
-    )
-}
-
 impl Engine {
     fn may_enter(&self, tables: &Tables<'_>, order: Order) -> Result<(), Refusal>
         ensures { result_err result ≡ first_no (enter_questions self.now (held tables.now) order) }
     {
         let (side, _) = order.well_formed().ok_or(Refusal::OrderForm)?;
-        if self.rest(tables, order.number).is_some() {
+        if self.is_on_book(tables, order.number) {
             return Err(Refusal::NumberTaken);
         }
         let used = match side {
@@ -69,16 +49,19 @@ impl Engine {
         }
     }
 
+    // `closes` is the closing time that the stage holds.
     fn may_close<S: QuoteSource>(
         &self,
+        closes: u32,
         source: &S,
         time: u32,
         last_sale: u32,
     ) -> Result<(), Refusal>
+        requires { closes_at self.now.stage ≡ closes }
         ensures { result_err result ≡ first_no (close_questions self.now (S.meaning source.now) time last_sale) }
     {
         self.may_come(time)?;
-        if matches!(self.stage, Stage::Acceptance { closes } if time < closes) {
+        if time < closes {
             return Err(Refusal::CloseEarly);
         }
         if !quotes_fit(source) {
@@ -90,36 +73,51 @@ impl Engine {
         Ok(())
     }
 
-    fn may_match(&self, tables: &Tables<'_>, time: u32) -> Result<(), Refusal>
+    // `deadline` is the one that the stage holds.
+    fn may_match(&self, deadline: u32, tables: &Tables<'_>, time: u32) -> Result<(), Refusal>
+        requires { deadline_of self.now.stage ≡ deadline }
         ensures { result_err result ≡ first_no (match_questions self.now (held tables.now) time) }
     {
         self.may_come(time)?;
-        let early = matches!(self.stage, Stage::Satisfaction { deadline, .. } if time < deadline);
-        if early && !self.tickets_reported(tables) {
+        if time < deadline && !self.tickets_reported(tables) {
             return Err(Refusal::TicketsOut);
         }
         Ok(())
     }
 
-    // What a call asks besides the sizes of the tables and the stage.
+    // What a call asks besides the sizes of the tables: whether it comes in this stage, and its own questions.
     fn may_call<S: QuoteSource>(
         &self,
         call: Call,
         source: &S,
         tables: &Tables<'_>,
     ) -> Result<(), Refusal>
-        ensures { result_err result ≡ first_no (own_questions self.now (S.meaning source.now) (held tables.now) call) }
+        ensures { result_err result ≡ first_no (stage_questions self.now (S.meaning source.now) (held tables.now) call) }
     {
-        // As in `grant`, one arm for each call.
-        match call {
-            Call::Begin { time, order, facts } => self.may_begin(source, time, order, facts),
-            Call::Enter { order } => self.may_enter(tables, order),
-            Call::Cancel { number } => self.may_cancel(tables, number),
-            Call::Close { time, last_sale } => self.may_close(source, time, last_sale),
-            Call::Report { ticket, filled } => self.may_report(tables, ticket, filled),
-            Call::Match { time } => self.may_match(tables, time),
-            Call::Finish { time } => self.may_come(time),
-            Call::Abort { time } => self.may_come(time),
+        // One arm for each pair of a stage and a call that may come, as in `grant`.
+        match (self.stage, call) {
+            (Stage::Open, Call::Begin { time, order, facts }) => {
+                self.may_begin(source, time, order, facts)
+            }
+            (Stage::Acceptance { .. }, Call::Enter { order }) => self.may_enter(tables, order),
+            (Stage::Acceptance { .. }, Call::Cancel { number }) => self.may_cancel(tables, number),
+            (Stage::Acceptance { closes }, Call::Close { time, last_sale }) => {
+                self.may_close(closes, source, time, last_sale)
+            }
+            (Stage::Satisfaction { .. }, Call::Report { ticket, filled }) => {
+                self.may_report(tables, ticket, filled)
+            }
+            (Stage::Matched, Call::Report { ticket, filled }) => {
+                self.may_report(tables, ticket, filled)
+            }
+            (Stage::Satisfaction { deadline, .. }, Call::Match { time }) => {
+                self.may_match(deadline, tables, time)
+            }
+            (Stage::Matched, Call::Finish { time }) => self.may_come(time),
+            (Stage::Acceptance { .. }, Call::Abort { time }) => self.may_come(time),
+            (Stage::Satisfaction { .. }, Call::Abort { time }) => self.may_come(time),
+            (Stage::Matched, Call::Abort { time }) => self.may_come(time),
+            _ => Err(Refusal::WrongStage),
         }
     }
 
@@ -135,9 +133,6 @@ impl Engine {
         if !tables.sizes_fit() {
             return Err(Refusal::TableSizes);
         }
-        if !stage_fits(call, self.stage) {
-            return Err(Refusal::WrongStage);
-        }
         self.may_call(call, source, tables)
     }
 
@@ -148,7 +143,8 @@ impl Engine {
         source: &S,
         tables: &Tables<'_>,
     ) -> Option<Refusal>
-        ensures { result ≡ first_no (questions self.now (S.meaning source.now) (held tables.now) call) }
+        ensures is { result ≡ first_no (questions self.now (S.meaning source.now) (held tables.now) call) }
+        ensures number { met_number result ≡ first_number (numbered self.now (S.meaning source.now) (held tables.now) call) }
     {
         self.may_turn(call, source, tables).err()
     }

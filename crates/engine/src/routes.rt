@@ -6,7 +6,7 @@ ghost use Rattle.routing.specs.Owed.{owed};
 ghost use Rattle.routing.specs.Tickets.{tickets};
 ghost use Rattle.engine.specs.Lent.{held_in, SameFitted};
 ghost use Rattle.engine.specs.Books.{market_of};
-ghost use Rattle.engine.specs.Effects.{book_in, with_quotes, written, drawn, side_out, tickets_at, with_routed};
+ghost use Rattle.engine.specs.Effects.{book_in, with_quotes, written, drawn, shares_out, with_tickets, tickets_at, with_routed};
 
 use crate::fitted::Fitted;
 use crate::listed::Listed;
@@ -51,7 +51,7 @@ fn route_rows(
 impl Fitted<'_> {
     // Tickets what a side owes to the quotes of the other, and sends it out.
     fn route_side(&mut self, side: Side, owed: u64, quoted: usize, used: Used) -> usize
-        ensures rows { held_in self.new ≡ side_out side owed (drawn side owed quoted used (held_in self.old)) (held_in self.old) }
+        ensures rows { held_in self.new ≡ with_tickets (drawn side owed quoted used (held_in self.old)) (shares_out side owed (held_in self.old)) }
         ensures count { result ≡ length (drawn side owed quoted used (held_in self.old)) }
         ensures names { SameFitted self.old self.new }
     {

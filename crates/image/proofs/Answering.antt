@@ -1,9 +1,10 @@
 -- What the questions tell once all are answered yes.
-use Rattle.std.proofs.Common.{◌≡◌, ℕ, ◌≤◌, true, false, cond, ◌&&◌, eqb, leb, List, [], ◌∷◌, length, Some, None, Ok, Err, Option, sym, refl, ap, subst}
+use Rattle.std.proofs.Common.{◌≡◌, ℕ, ◌≤◌, Bool, true, false, cond, ◌&&◌, eqb, leb, List, [], ◌∷◌, length, Some, None, Ok, Err, Option, Result, IfOk, sym, refl, ap, ◌∙◌, subst, arith}
 use Rattle.std.proofs.lemmas.Bool.{and_parts, and_from, le-leb, eq-eqb}
 use Rattle.market.specs.declared.refusal.Refusal.{Refusal}
-use Rattle.market.specs.declared.refusal.Refusal.TheVariants.{OutputLength}
-use Rattle.market.specs.Refusals.{refusal_number}
+use Rattle.market.specs.declared.refusal.Refusal.TheVariants.{Quotes, LastSale, OutputLength, ImageLayout, ImageOrder}
+use Rattle.market.specs.Refusals.{refusal_number, answer_number}
+use Rattle.market.proofs.Refusing.{refusal_counts}
 use Rattle.market.specs.Prices.{permitted}
 use Rattle.market.specs.Fits.{all_by, side_fits, quotes_fit}
 use Rattle.market.specs.Questions.{Question, first_no}
@@ -13,7 +14,9 @@ use Rattle.pricing.proofs.Standing.{side_stands}
 use Rattle.pricing.specs.Closing.{Outcome, Closing, Best}
 use Rattle.image.specs.Entries.{level_fits}
 use Rattle.image.specs.Images.{is_image, image_book, market_of, orders_fit}
-use Rattle.image.specs.Answers.{image_questions, PricedBy, PricedAs, AnsweredBy, ImagePricing}
+use Rattle.image.specs.Answers.{image_questions, PricedBy, PricedAs, outcome_bytes, AnsweredBy, ImagePricing}
+use Rattle.image.specs.Numbers.{image_number, OutcomeSays, PricedNumbers, pricing_numbers}
+use Rattle.image.proofs.Saying.{says}
 
 -- a list of questions that are all answered yes refuses nothing
 all_yes : (qs : List Question) → all_by (λ q. q.yes) qs ≡ true → first_no qs ≡ None
@@ -64,3 +67,57 @@ refused image last out e long p =
     let t : eqb (length out) 16 ≡ true = eq-eqb (length out) 16 long in
     subst (λ b. AnsweredBy (cond b (first_no (image_questions image last)) (Some OutputLength)) image last out (refusal_number e) out) (sym t)
     (refused_by (first_no (image_questions image last)) image last out e p)
+
+-- the image was priced, and the outcome was written
+granted_by : (o : Option Refusal) (image : List ℕ) (last : ℕ) (out : List ℕ) (x : Outcome) (after : List ℕ) → PricedBy o image last (Ok x) → after ≡ outcome_bytes x → AnsweredBy o image last out 0 after
+granted_by None image last out x after p e = record { answer = refl; outcome = x; settled = p; bytes = e }
+granted_by (Some f) image last out x after p e = cc
+
+pub granted : (image : List ℕ) (last : ℕ) (out : List ℕ) (x : Outcome) (after : List ℕ) → length out ≡ 16 → PricedAs image last (Ok x) → after ≡ outcome_bytes x → ImagePricing image last out 0 after
+granted image last out x after long p e =
+    let t : eqb (length out) 16 ≡ true = eq-eqb (length out) 16 long in
+    subst (λ b. AnsweredBy (cond b (first_no (image_questions image last)) (Some OutputLength)) image last out 0 after) (sym t)
+    (granted_by (first_no (image_questions image last)) image last out x after p e)
+
+-- what an outcome says, in numbers
+outcome_says_by : (o : Option Refusal) (image : List ℕ) (last : ℕ) (r : Result Outcome Refusal) → PricedBy o image last r → IfOk r (OutcomeSays (image_book image) last)
+outcome_says_by None image last (Ok x) p = says (image_book image) last x p.closing p.best
+outcome_says_by None image last (Err e) p = absurd p
+outcome_says_by (Some f) image last (Ok x) p = cc
+outcome_says_by (Some f) image last (Err e) p = tt
+
+pub outcome_says : (image : List ℕ) (last : ℕ) (r : Result Outcome Refusal) → PricedAs image last r → IfOk r (OutcomeSays (image_book image) last)
+outcome_says image last r p = outcome_says_by (first_no (image_questions image last)) image last r p
+
+-- the number of an answer is that of the first question with the answer no
+abbrev number_or_0 : Option Refusal → ℕ
+number_or_0 None = 0
+number_or_0 (Some refusal) = refusal_number refusal
+
+number_by : (o : Option Refusal) (image : List ℕ) (last : ℕ) (r : Result Outcome Refusal) → PricedBy o image last r → answer_number r ≡ number_or_0 o
+number_by None image last (Ok x) p = refl
+number_by None image last (Err e) p = absurd p
+number_by (Some f) image last (Ok x) p = cc
+number_by (Some f) image last (Err e) p = let same : e ≡ f = cc in ap refusal_number same
+
+asked : (layout orders quotes sale : Bool) → number_or_0 (cond layout (cond orders (cond quotes (cond sale None (Some LastSale)) (Some Quotes)) (Some ImageOrder)) (Some ImageLayout)) ≡ cond layout (cond orders (cond quotes (cond sale 0 19) 4) 26) 25
+asked true true true true = refl
+asked true true true false = refl
+asked true true false sale = refl
+asked true false quotes sale = refl
+asked false orders quotes sale = refl
+
+-- the numbers of a whole answer
+with_number : (image : List ℕ) (last : ℕ) (r : Result Outcome Refusal) → answer_number r ≡ image_number image last → IfOk r (OutcomeSays (image_book image) last) → PricedNumbers image last (pricing_numbers r)
+with_number image last (Ok (Ok x)) number says = record { refusal_is = number; refused = λ h. absurd (omega arith); says = λ e. says }
+with_number image last (Ok (Err cause)) number says = record { refusal_is = number; refused = λ h. absurd (omega arith); says = λ e. says }
+with_number image last (Err refusal) number says = record {
+  refusal_is = number;
+  refused = λ h. (refl, refl, refl);
+  says = λ e. absurd (omega (arith, refusal_counts refusal, e));
+}
+
+pub priced_numbers : (image : List ℕ) (last : ℕ) (r : Result Outcome Refusal) → PricedAs image last r → PricedNumbers image last (pricing_numbers r)
+priced_numbers image last r p =
+    let is = number_by (first_no (image_questions image last)) image last r p in
+    with_number image last r (is ∙ asked (is_image image) (orders_fit (image_book image)) (quotes_fit (market_of (image_book image))) (leb last 4000000000)) (outcome_says image last r p)

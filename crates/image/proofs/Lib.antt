@@ -2,4 +2,5 @@ pub mod Parts
 pub mod Lists
 pub mod Meanings
 pub mod Bytes
+pub mod Saying
 pub mod Answering

@@ -1,10 +1,10 @@
 -- The parts that a reader cuts out of an image mean the lists of the image.
 use Rattle.std.proofs.Common.{◌≡◌, ℕ, zero, suc, ◌+◌, ◌-◌, ◌*◌, ◌<◌, ◌≤◌, List, ◌∷◌, map, length, take, drop, refl, ap, ◌∙◌, arith, length-drop, length-take}
 use Rattle.std.specs.List.{range_with_len}
-use Rattle.pricing.specs.Books.{Book, levels}
+use Rattle.pricing.specs.Books.{levels}
 use Rattle.image.specs.Words.{word}
 use Rattle.image.specs.Entries.{level_at, quote_at, length_in, levels_in, quotes_in}
-use Rattle.image.specs.Images.{Sized, image_book, buys_in, sells_in, bids_in, offers_in, entries_in, price_in, shares_in, orders_from, quotes_from}
+use Rattle.image.specs.Images.{entries_in, price_in, shares_in, orders_from, quotes_from}
 use Rattle.image.proofs.Parts.{word_part}
 
 counted_same_from : {X : Type 0} (f g : ℕ → X) (a n : ℕ) → ((k : ℕ) → k < a + n → f k ≡ g k) → map f (range_with_len a n) ≡ map g (range_with_len a n)
@@ -50,45 +50,6 @@ module _ (bs : List ℕ) (n from count : ℕ) (exact : length bs ≡ 16 + 8 * n)
   quotes_there =
       counted_same (quote_at prices shares) (λ k. record { price = price_in bs (from + k); shares = shares_in bs (from + k); venue = k + 1 }) (length_in prices shares) count long
       (λ k h. let p = price_there k h in let s = shares_there k h in cc)
-
--- what the reader cuts out, by the sizes that it has read
-module _ (bs : List ℕ) (b s d o : ℕ) (sized : Sized bs b s d o) where
-  abbrev all_prices : List ℕ
-  all_prices = take (16 + 4 * (b + s + d + o) - 16) (drop 16 bs)
-
-  abbrev all_shares : List ℕ
-  all_shares = take (length bs - (16 + 4 * (b + s + d + o))) (drop (16 + 4 * (b + s + d + o)) bs)
-
-  pub record Cut (from count : ℕ) (prices shares : List ℕ) : Type 0 where
-    pub prices_are : prices ≡ take (4 * count) (drop (4 * from) all_prices)
-    pub shares_are : shares ≡ take (4 * count) (drop (4 * from) all_shares)
-
-  size : b + s + d + o ≡ entries_in bs
-  size = omega (arith, sized.buys_are, sized.sells_are, sized.bids_are, sized.offers_are)
-
-  cut_orders : (from from' count count' : ℕ) (ps ss : List ℕ) → Cut from count ps ss → from + count ≤ b + s + d + o → count ≤ 512 → from ≡ from' → count ≡ count' → levels_in ps ss ≡ orders_from bs from' count'
-  cut_orders from from' count count' ps ss cut within few e f =
-      let there = orders_there bs (b + s + d + o) from count sized.exact size within few in
-      let p = cut.prices_are in
-      let q = cut.shares_are in
-      cc
-
-  cut_quotes : (from from' count count' : ℕ) (ps ss : List ℕ) → Cut from count ps ss → from + count ≤ b + s + d + o → count ≤ 512 → from ≡ from' → count ≡ count' → quotes_in ps ss ≡ quotes_from bs from' count'
-  cut_quotes from from' count count' ps ss cut within few e f =
-      let there = quotes_there bs (b + s + d + o) from count sized.exact size within few in
-      let p = cut.prices_are in
-      let q = cut.shares_are in
-      cc
-
-  pub image_there :
-      (bp bq sp sq dp dq op oq : List ℕ) → Cut 0 b bp bq → Cut b s sp sq → Cut (b + s) d dp dq → Cut (b + s + d) o op oq
-      → ◌≡◌ {A = Book} (record { buys = levels_in bp bq; sells = levels_in sp sq; bids = quotes_in dp dq; offers = quotes_in op oq }) (image_book bs)
-  image_there bp bq sp sq dp dq op oq buys-cut sells-cut bids-cut offers-cut =
-      let buys = cut_orders 0 0 b (buys_in bs) bp bq buys-cut (omega arith) sized.buys_few refl sized.buys_are in
-      let sells = cut_orders b (buys_in bs) s (sells_in bs) sp sq sells-cut (omega arith) sized.sells_few sized.buys_are sized.sells_are in
-      let bids = cut_quotes (b + s) (buys_in bs + sells_in bs) d (bids_in bs) dp dq bids-cut (omega arith) (omega (arith, sized.bids_few)) (omega (arith, sized.buys_are, sized.sells_are)) sized.bids_are in
-      let offers = cut_quotes (b + s + d) (buys_in bs + sells_in bs + bids_in bs) o (offers_in bs) op oq offers-cut (omega arith) (omega (arith, sized.offers_few)) (omega (arith, sized.buys_are, sized.sells_are, sized.bids_are)) sized.offers_are in
-      cc
 
 -- quotes without their venues are the same entries
 levels_from : (ps ss : List ℕ) (a n : ℕ) → levels (map (quote_at ps ss) (range_with_len a n)) ≡ map (level_at ps ss) (range_with_len a n)

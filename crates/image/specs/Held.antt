@@ -1,9 +1,10 @@
--- What a reader holds: the entries of a list as levels and as quotes, and the book.
+-- What a reader of bytes means: the entries of a list as levels and as quotes, and the book.
 use Rattle.std.specs.Prelude.{List, drop}
 use Rattle.market.specs.declared.quote.Quote.{Quote}
 use Rattle.pricing.specs.Books.{Book}
 use Rattle.pricing.specs.declared.level.Level.{Level}
 use Rattle.image.specs.Entries.{levels_in, quotes_in}
+use Rattle.image.specs.Images.{image_book}
 use Rattle.image.specs.declared.entries.Entries.{Entries}
 use Rattle.image.specs.declared.entries.Levels.{Levels}
 use Rattle.image.specs.declared.image.BookImage.{BookImage}
@@ -18,10 +19,6 @@ quotes_of entries = quotes_in entries.prices.now entries.shares.now
 abbrev pub levels_left : Levels → List Level
 levels_left left = drop left.place (levels_of left.entries)
 
+-- the book that the bytes mean
 abbrev pub book_of : BookImage → Book
-book_of image = record {
-  buys = levels_of image.buys;
-  sells = levels_of image.sells;
-  bids = quotes_of image.bids;
-  offers = quotes_of image.offers;
-}
+book_of image = image_book image.bytes.now

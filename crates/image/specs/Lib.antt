@@ -3,3 +3,4 @@ pub mod Entries
 pub mod Images
 pub mod Held
 pub mod Answers
+pub mod Numbers

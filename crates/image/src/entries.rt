@@ -115,7 +115,7 @@ impl<'a> Entries<'a> {
     pub fn fit(&self) -> bool
         ensures { result ≡ all_by level_fits (levels_of self.now) }
     {
-        self.levels().all(fits)
+        self.levels().fold(true, |ok, level| ok & fits(level))
     }
 }
 

@@ -1,13 +1,15 @@
 // A book as a venue's program hands it over: bytes in memory.
 ghost use Rattle.std.specs.Prelude.{◌≡◌, ◌+◌, ◌*◌, ◌≤◌, true, false, length, take, drop, MatchResult};
 ghost use Rattle.market.specs.declared.refusal.Refusal.TheVariants.{ImageLayout};
-ghost use Rattle.image.specs.Images.{is_image, image_book, Sized};
-ghost use Rattle.image.specs.Held.{book_of};
+ghost use Rattle.market.specs.Refusals.{answer_number};
+ghost use Rattle.market.specs.Markets.{quotes_on};
+ghost use Rattle.image.specs.Images.{is_image, image_book, Sized, orders_from, quotes_from, orders_on, market_of};
 
 use crate::entries::{Entries, MOST_ENTRIES};
 use crate::words::word_at;
 use market::limits::MOST_QUOTES;
 use market::refusal::Refusal;
+use market::side::Side;
 
 // The bytes of the four sizes.
 const HEADER: usize = 16;
@@ -66,31 +68,71 @@ fn part<'a>(prices: &'a [u8], shares: &'a [u8], from: usize, count: usize) -> En
     }
 }
 
-// A reader over the bytes: it holds the parts of the two arrays that belong to each list.
+// A reader over the bytes. It reads the four sizes only: the bytes stay where they are, and a list is cut out of them when it
+// is asked for.
 #[derive(Clone, Copy, Debug, PartialEq, Eq)]
 pub struct BookImage<'a> {
-    pub(crate) buys: Entries<'a>,
-    pub(crate) sells: Entries<'a>,
-    pub(crate) bids: Entries<'a>,
-    pub(crate) offers: Entries<'a>,
+    bytes: &'a [u8],
+    sizes: Sizes,
+    ghost sized: { Sized bytes.now sizes.buys sizes.sells sizes.bids sizes.offers },
 }
 
 impl<'a> BookImage<'a> {
-    // The book in some bytes, or a refusal where they have not the layout of an image. It reads the four sizes only: the
-    // bytes stay where they are.
+    ghost use Rattle.image.specs.Held.{book_of, levels_of, quotes_of};
+    ghost use Rattle.image.specs.Numbers.{read_number};
+
+    // The book in some bytes, or a refusal where they have not the layout of an image.
     pub fn read(bytes: &'a [u8]) -> Result<BookImage<'a>, Refusal>
-        ensures { MatchResult result (λ image. (is_image bytes.now ≡ true) × (book_of image ≡ image_book bytes.now)) (λ e. (is_image bytes.now ≡ false) × (e ≡ ImageLayout)) }
+        ensures book { MatchResult result (λ image. (is_image bytes.now ≡ true) × (book_of image ≡ image_book bytes.now)) (λ e. (is_image bytes.now ≡ false) × (e ≡ ImageLayout)) }
+        ensures number { answer_number result ≡ read_number bytes.now }
     {
         let sizes = Sizes::try_from(bytes)?;
-        let orders = sizes.buys + sizes.sells;
-        let entries = orders + sizes.bids + sizes.offers;
-        let prices = &bytes[HEADER..HEADER + 4 * entries];
-        let shares = &bytes[HEADER + 4 * entries..];
-        Ok(BookImage {
-            buys: part(prices, shares, 0, sizes.buys),
-            sells: part(prices, shares, sizes.buys, sizes.sells),
-            bids: part(prices, shares, orders, sizes.bids),
-            offers: part(prices, shares, orders + sizes.bids, sizes.offers),
-        })
+        Ok(BookImage { bytes, sizes })
+    }
+
+    // The entries from `from` on, `count` of them. The array of all shares begins in the middle of the bytes.
+    fn entries(&self, from: usize, count: usize) -> Entries<'a>
+        requires within { from + count ≤ self.now.sizes.buys + self.now.sizes.sells + self.now.sizes.bids + self.now.sizes.offers }
+        requires few { count ≤ 512 }
+        ensures orders { levels_of result ≡ orders_from self.now.bytes.now from count }
+        ensures quotes { quotes_of result ≡ quotes_from self.now.bytes.now from count }
+    {
+        let Sizes {
+            buys,
+            sells,
+            bids,
+            offers,
+        } = self.sizes;
+        let middle = HEADER + 4 * (buys + sells + bids + offers);
+        let prices = &self.bytes[HEADER..middle];
+        let shares = &self.bytes[middle..];
+        part(prices, shares, from, count)
+    }
+
+    // The orders of a side.
+    pub fn orders(&self, side: Side) -> Entries<'a>
+        ensures { levels_of result ≡ orders_on side (book_of self.now) }
+    {
+        let Sizes { buys, sells, .. } = self.sizes;
+        match side {
+            Side::Buy => self.entries(0, buys),
+            Side::Sell => self.entries(buys, sells),
+        }
+    }
+
+    // The quotes of a side.
+    pub(crate) fn quoted(&self, side: Side) -> Entries<'a>
+        ensures { quotes_of result ≡ quotes_on side (market_of (book_of self.now)) }
+    {
+        let Sizes {
+            buys,
+            sells,
+            bids,
+            offers,
+        } = self.sizes;
+        match side {
+            Side::Buy => self.entries(buys + sells, bids),
+            Side::Sell => self.entries(buys + sells + bids, offers),
+        }
     }
 }

@@ -2,10 +2,8 @@
 ghost use Rattle.std.specs.Prelude.{◌≡◌};
 ghost use Rattle.std.specs.List.{slice_get};
 ghost use Rattle.image.specs.Images.{market_of, orders_on, orders_fit};
-ghost use Rattle.market.specs.Markets.{quotes_on};
-ghost use Rattle.image.specs.Held.{levels_of, quotes_of, book_of};
+ghost use Rattle.image.specs.Held.{book_of};
 
-use crate::entries::Entries;
 use crate::image::BookImage;
 use market::best::best_price;
 use market::quote::Quote;
@@ -14,27 +12,7 @@ use market::source::QuoteSource;
 use pricing::level::Level;
 use pricing::view::BookView;
 
-impl<'a> BookImage<'a> {
-    // The orders of a side.
-    pub fn orders(&self, side: Side) -> Entries<'a>
-        ensures { levels_of result ≡ orders_on side (book_of self.now) }
-    {
-        match side {
-            Side::Buy => self.buys,
-            Side::Sell => self.sells,
-        }
-    }
-
-    // The quotes of a side, as one choice of two lists more: what they mean is said by other words than what orders do.
-    fn quoted(&self, side: Side) -> Entries<'a>
-        ensures { quotes_of result ≡ quotes_on side (market_of (book_of self.now)) }
-    {
-        match side {
-            Side::Buy => self.bids,
-            Side::Sell => self.offers,
-        }
-    }
-
+impl BookImage<'_> {
     // The order at a place of a side, counted from 0; none past the end.
     pub fn order(&self, side: Side, place: usize) -> Option<Level>
         ensures { result ≡ slice_get (orders_on side (book_of self.now)) place }
@@ -46,7 +24,7 @@ impl<'a> BookImage<'a> {
     pub fn orders_fit(&self) -> bool
         ensures { result ≡ orders_fit (book_of self.now) }
     {
-        self.buys.fit() && self.sells.fit()
+        self.orders(Side::Buy).fit() && self.orders(Side::Sell).fit()
     }
 }
 
@@ -74,14 +52,12 @@ impl BookView for BookImage<'_> {
     }
 
     fn next_price(&self, price: u32) -> u32 {
-        let orders = self
-            .buys
-            .next_above(price)
-            .min(self.sells.next_above(price));
-        let quotes = self
-            .bids
-            .next_above(price)
-            .min(self.offers.next_above(price));
+        let buys = self.orders(Side::Buy).next_above(price);
+        let sells = self.orders(Side::Sell).next_above(price);
+        let bids = self.quoted(Side::Buy).next_above(price);
+        let offers = self.quoted(Side::Sell).next_above(price);
+        let orders = buys.min(sells);
+        let quotes = bids.min(offers);
         orders.min(quotes)
     }
 

@@ -4,3 +4,7 @@ pub mod Slots
 pub mod Asked
 pub mod Fitting
 pub mod Prices
+pub mod Lawful
+pub mod Bests
+pub mod Refusing
+pub mod Tables

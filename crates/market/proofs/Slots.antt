@@ -5,8 +5,10 @@ use Rattle.std.specs.Option.{option_map}
 use Rattle.std.proofs.lemmas.Bool.{le-ltb, lt-ltb, eq-eqb, ne_eqb}
 use Rattle.std.proofs.lemmas.List.Sums.{length-filter}
 use Rattle.std.proofs.ByRecursion.{All-weaker}
-use Rattle.market.specs.Venues.{listed, quote_of, quoted, without, marked, market_in, Rising, ByVenue}
-use Rattle.market.specs.declared.venues.Mark.{Mark}
+use Rattle.market.specs.Limits.{venues}
+use Rattle.market.specs.Marks.{listed, quote_of, Rising, OfVenue, WellListed}
+use Rattle.market.specs.Venues.{quoted, without, marked, market_in, ByVenue}
+use Rattle.market.specs.declared.mark.Mark.{Mark}
 use Rattle.market.specs.declared.venues.VenueTable.{VenueTable}
 use Rattle.market.specs.declared.quote.Quote.{Quote}
 
@@ -77,4 +79,13 @@ listed_rising v (None ∷ slots) = listed_rising (v + 1) slots
 listed_rising v (Some m ∷ slots) = (All-weaker (λ x. v + 1 ≤ x.venue) (λ x. v < x.venue) (λ x h. omega arith) (listed (v + 1) slots) (listed_from (v + 1) slots), listed_rising (v + 1) slots)
 
 pub by_venue : (t : VenueTable) → ByVenue (market_in t)
-by_venue t = record { bids_rise = listed_rising 1 t.bids; offers_rise = listed_rising 1 t.offers }
+by_venue t = record { bids_rise = t.bids_listed.rise; offers_rise = t.offers_listed.rise }
+
+-- each quote of the list is of a venue that has a slot, and fits
+listed_each : (v : ℕ) (slots : List (Option Mark)) → 1 ≤ v → v + length slots ≤ venues + 1 → AllByRecursion OfVenue (listed v slots)
+listed_each v [] low high = tt
+listed_each v (None ∷ slots) low high = listed_each (v + 1) slots (omega arith) (omega arith)
+listed_each v (Some m ∷ slots) low high = (record { first = low; last = omega arith; fit = m.fit }, listed_each (v + 1) slots (omega arith) (omega arith))
+
+pub well_listed : (slots : List (Option Mark)) → length slots ≡ venues → WellListed (listed 1 slots)
+well_listed slots long = record { rise = listed_rising 1 slots; each = listed_each 1 slots (omega arith) (omega arith) }

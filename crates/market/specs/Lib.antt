@@ -7,6 +7,9 @@ pub mod Best
 pub mod Refusals
 pub mod Questions
 pub mod Quotes
+pub mod Marks
+pub mod MarkLaws
 pub mod Venues
 pub mod Rankings
 pub mod RankingLaws
+pub mod Laws

@@ -1,5 +1,5 @@
 -- The number and the words of each refusal.
-use Rattle.std.specs.Prelude.{ℕ, List, codes}
+use Rattle.std.specs.Prelude.{ℕ, List, codes, Ok, Err, Result}
 use Rattle.market.specs.declared.refusal.Refusal.{Refusal}
 use Rattle.market.specs.declared.refusal.Refusal.TheVariants.{TableSizes, WrongStage, TimeRange, Quotes, TradingHalted, NoMarket, OrderForm, ShortSale, StartSize, StartReach, StartTime, NoRouting, AcceptanceLength, NumberTaken, SideFull, UnknownOrder, NoRest, CloseEarly, LastSale, UnknownTicket, TicketReported, TicketFills, TicketsOut, OutputLength, ImageLayout, ImageOrder, VenueOrSide, QuoteValue}
 
@@ -32,6 +32,11 @@ refusal_number ImageLayout = 25
 refusal_number ImageOrder = 26
 refusal_number VenueOrSide = 27
 refusal_number QuoteValue = 28
+
+-- the number of an answer that may be a refusal: 0 where it is granted
+abbrev pub answer_number : {A : Type 0} → Result A Refusal → ℕ
+answer_number (Ok granted) = 0
+answer_number (Err refusal) = refusal_number refusal
 
 abbrev pub refusal_words : Refusal → List ℕ
 refusal_words TableSizes = codes "the tables have not 512, 512, 32, 32 and 544 rows"

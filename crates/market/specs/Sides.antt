@@ -1,5 +1,5 @@
--- The number of each side.
-use Rattle.std.specs.Prelude.{ℕ, cond, Some, None, Option, ◌==◌}
+-- The number of each side, and what is said of a number that is no side's.
+use Rattle.std.specs.Prelude.{ℕ, cond, List, ◌++◌, codes, decimal, Some, None, Option, ◌==◌}
 use Rattle.market.specs.declared.side.Side.{Side}
 use Rattle.market.specs.declared.side.Side.TheVariants.{Buy, Sell}
 use Rattle.market.specs.declared.side.UnknownSide.{UnknownSide}
@@ -14,3 +14,6 @@ side_numbered n = cond (n == 1) (Some Buy) (cond (n == 2) (Some Sell) None)
 
 abbrev pub unknown_side : ℕ → UnknownSide
 unknown_side n = record { 0 = n }
+
+abbrev pub unknown_side_words : UnknownSide → List ℕ
+unknown_side_words unknown = codes "no side has the number " ++ decimal unknown.0

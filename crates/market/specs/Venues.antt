@@ -1,23 +1,14 @@
 -- What a table of venues means, and what venues do to it.
-use Rattle.std.specs.Prelude.{ℕ, ◌+◌, ◌<◌, Bool, cond, ◌&&◌, List, [], ◌∷◌, Some, None, Ok, Err, Option, Result, ◌==◌, nat_le, nat_lt}
-use Rattle.std.specs.List.{AllByRecursion}
+use Rattle.std.specs.Prelude.{ℕ, Bool, cond, ◌&&◌, List, [], ◌∷◌, Some, None, Ok, Err, Option, Result, ◌==◌, nat_le, nat_lt}
 use Rattle.market.specs.Limits.{venues}
 use Rattle.market.specs.Prices.{fits}
 use Rattle.market.specs.Markets.{Market}
 use Rattle.market.specs.declared.quote.Quote.{Quote}
 use Rattle.market.specs.declared.refusal.Refusal.{Refusal}
 use Rattle.market.specs.declared.refusal.Refusal.TheVariants.{VenueOrSide, QuoteValue}
-use Rattle.market.specs.declared.venues.Mark.{Mark}
+use Rattle.market.specs.Marks.{quote_of, listed, Rising}
+use Rattle.market.specs.declared.mark.Mark.{Mark}
 use Rattle.market.specs.declared.venues.VenueTable.{VenueTable}
-
-abbrev pub quote_of : Mark → ℕ → Quote
-quote_of m v = record { price = m.price; shares = m.shares; venue = v }
-
--- the marks that are there, each with its venue; the first slot is that of venue v
-abbrev pub listed : ℕ → List (Option Mark) → List Quote
-listed v [] = []
-listed v (None ∷ slots) = listed (v + 1) slots
-listed v (Some m ∷ slots) = quote_of m v ∷ listed (v + 1) slots
 
 abbrev pub market_in : VenueTable → Market
 market_in t = record { bids = listed 1 t.bids; offers = listed 1 t.offers; halted = t.halted }
@@ -48,6 +39,13 @@ set_answer venue side price shares = cond (is_place venue side) (cond (fits pric
 abbrev pub clear_answer : ℕ → ℕ → Result (Unit {0}) Refusal
 clear_answer venue side = cond (is_place venue side) (Ok tt) (Err VenueOrSide)
 
+-- the same answers in numbers, as a venue gets them: venues count from 1 to 32, and a side is 1 or 2
+abbrev pub set_number : ℕ → ℕ → ℕ → ℕ → ℕ
+set_number venue side price shares = cond ((nat_le 1 venue && nat_le venue 32) && (nat_le 1 side && nat_le side 2)) (cond (fits price shares) 0 28) 27
+
+abbrev pub clear_number : ℕ → ℕ → ℕ
+clear_number venue side = cond ((nat_le 1 venue && nat_le venue 32) && (nat_le 1 side && nat_le side 2)) 0 27
+
 -- the market after a change of one side's list, if the call was granted
 abbrev pub changed : Bool → ℕ → (List Quote → List Quote) → Market → Market
 changed granted side change m = record {
@@ -61,11 +59,6 @@ after_set granted venue side price shares m = changed granted side (quoted (reco
 
 abbrev pub after_clear : Bool → ℕ → ℕ → Market → Market
 after_clear granted venue side m = changed granted side (without venue) m
-
--- quotes by rising venue, so at most one for each
-abbrev pub Rising : List Quote → Type 0
-Rising [] = Unit {0}
-Rising (x ∷ xs) = AllByRecursion (λ y. x.venue < y.venue) xs × Rising xs
 
 pub record ByVenue (m : Market) : Type 0 where
   pub bids_rise : Rising m.bids

@@ -2,7 +2,9 @@
 
 pub mod best;
 pub mod fit;
+pub mod laws;
 pub mod limits;
+pub(crate) mod mark;
 pub mod price;
 pub mod quote;
 pub mod quotes;

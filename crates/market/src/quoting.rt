@@ -1,23 +1,28 @@
 // What venues do to their table, and what it means as a source.
-ghost use Rattle.std.specs.Prelude.{◌≡◌, ◌≤◌, true, false, [], is_ok, IfOk, IfErr};
+ghost use Rattle.std.specs.Prelude.{◌≡◌, ◌≤◌, true, false, [], is_ok, IfOk, IfErr, OnOk};
 ghost use Rattle.market.specs.Markets.{quotes_on};
 ghost use Rattle.market.specs.Sides.{side_number};
-ghost use Rattle.market.specs.Venues.{listed, is_place, market_in, changed, marked, ByVenue, set_answer, clear_answer, after_set, after_clear};
+ghost use Rattle.market.specs.Limits.{venues};
+ghost use Rattle.market.specs.Marks.{listed};
+ghost use Rattle.market.specs.Venues.{is_place, market_in, changed, marked, ByVenue, set_answer, clear_answer, set_number, clear_number, after_set, after_clear};
+ghost use Rattle.market.specs.Laws.{Changes};
+ghost use Rattle.market.specs.Refusals.{answer_number};
 ghost use Rattle.market.specs.declared.refusal.Refusal.TheVariants.{VenueOrSide};
 
 use crate::limits::VENUES;
+use crate::mark::Mark;
 use crate::price::entry_fits;
 use crate::quote::Quote;
 use crate::refusal::Refusal;
 use crate::side::Side;
 use crate::source::QuoteSource;
-use crate::venues::{Mark, VenueTable, count_marks, mark_at};
+use crate::venues::{VenueTable, count_marks, mark_at};
 
 // The side of a number, for a venue's quote: 1 for bids, 2 for offers. A venue may send any numbers: each that is none has its
 // answer.
 fn quoting_side(venue: u32, side: u32) -> Result<Side, Refusal>
     ensures granted { is_ok result ≡ is_place venue side }
-    ensures ok { IfOk result (λ s. (side_number s ≡ side) × (1 ≤ venue) × (venue ≤ 32)) }
+    ensures ok { IfOk result (λ s. (side_number s ≡ side) × (1 ≤ venue) × (venue ≤ venues)) }
     ensures err { IfErr result (λ refusal. refusal ≡ VenueOrSide) }
 {
     match Side::try_from(side) {
@@ -41,7 +46,9 @@ impl VenueTable {
     // Puts a venue's quote on a side, 1 for bids and 2 for offers, in the place of the one that it had.
     pub fn set(&mut self, venue: u32, side: u32, price: u32, shares: u32) -> Result<(), Refusal>
         ensures answer { result ≡ set_answer venue side price shares }
+        ensures number { answer_number result ≡ set_number venue side price shares }
         ensures market { market_in self.new ≡ after_set (is_ok result) venue side price shares (market_in self.old) }
+        ensures venues { OnOk result (Changes venue side (Some (record { price = price; shares = shares; venue = venue })) (market_in self.old) (market_in self.new)) }
         ensures refused { is_ok result ≡ false → self.new ≡ self.old }
         ensures listed { ByVenue (market_in self.new) }
     {
@@ -56,7 +63,9 @@ impl VenueTable {
     // Takes a venue's quote off a side, if it has one there.
     pub fn clear(&mut self, venue: u32, side: u32) -> Result<(), Refusal>
         ensures answer { result ≡ clear_answer venue side }
+        ensures number { answer_number result ≡ clear_number venue side }
         ensures market { market_in self.new ≡ after_clear (is_ok result) venue side (market_in self.old) }
+        ensures venues { OnOk result (Changes venue side None (market_in self.old) (market_in self.new)) }
         ensures refused { is_ok result ≡ false → self.new ≡ self.old }
         ensures listed { ByVenue (market_in self.new) }
     {
@@ -68,7 +77,7 @@ impl VenueTable {
     // Puts a mark on a venue's slot of a side, or takes off the one that is there.
     fn put(&mut self, side: Side, venue: u32, mark: Option<Mark>)
         requires least { 1 ≤ venue }
-        requires most { venue ≤ 32 }
+        requires most { venue ≤ venues }
         ensures { market_in self.new ≡ changed true (side_number side) (marked venue mark) (market_in self.old) }
     {
         let slot = venue as usize - 1;

@@ -1,11 +1,11 @@
 // Why a call is refused. Each refusal has a number of its own, which callers get.
-ghost use Rattle.std.specs.Prelude.{◌≡◌};
+ghost use Rattle.std.specs.Prelude.{◌≡◌, Some};
 ghost use Rattle.market.specs.Refusals.{refusal_number, refusal_words};
 
-use thiserror::Error;
+use std::error::Error;
+use std::fmt;
 
-#[derive(Clone, Copy, Debug, PartialEq, Eq, Hash, Error)]
-#[error("{}", self.words())]
+#[derive(Clone, Copy, Debug, PartialEq, Eq, Hash)]
 pub enum Refusal {
     // The tables have not the sizes that the engine works on.
     TableSizes = 1,
@@ -66,7 +66,7 @@ pub enum Refusal {
 }
 
 impl Refusal {
-    // What it says, in words: a function of its own, since a derived Display has no contract.
+    // What it says, in words.
     pub fn words(self) -> &'static str
         ensures { result.now ≡ refusal_words self }
     {
@@ -108,6 +108,18 @@ impl Refusal {
         }
     }
 }
+
+// Written by hand: a derived Display has no contract.
+impl fmt::Display for Refusal {
+    ghost output = { λ refusal. Some (refusal_words refusal) };
+
+    fn fmt<W: fmt::Write>(&self, f: &mut fmt::Formatter<W>) -> fmt::Result {
+        let words = self.words();
+        write!(f, "{words}")
+    }
+}
+
+impl Error for Refusal {}
 
 impl From<Refusal> for u32 {
     ghost from_gives = { λ refusal number. number ≡ refusal_number refusal };

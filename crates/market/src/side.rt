@@ -1,8 +1,9 @@
 // The two sides of a market: buys and bids, sells and offers.
-ghost use Rattle.std.specs.Prelude.{◌≡◌, ok_or};
-ghost use Rattle.market.specs.Sides.{side_number, side_numbered, unknown_side};
+ghost use Rattle.std.specs.Prelude.{◌≡◌, Some, ok_or};
+ghost use Rattle.market.specs.Sides.{side_number, side_numbered, unknown_side, unknown_side_words};
 
-use thiserror::Error;
+use std::error::Error;
+use std::fmt;
 
 #[derive(Clone, Copy, Debug, PartialEq, Eq, Hash)]
 pub enum Side {
@@ -11,9 +12,20 @@ pub enum Side {
 }
 
 // A number that is no side's.
-#[derive(Clone, Copy, Debug, PartialEq, Eq, Hash, Error)]
-#[error("no side has the number {0}")]
+#[derive(Clone, Copy, Debug, PartialEq, Eq, Hash)]
 pub struct UnknownSide(pub u32);
+
+// Written by hand: a derived Display has no contract.
+impl fmt::Display for UnknownSide {
+    ghost output = { λ unknown. Some (unknown_side_words unknown) };
+
+    fn fmt<W: fmt::Write>(&self, f: &mut fmt::Formatter<W>) -> fmt::Result {
+        let number = self.0;
+        write!(f, "no side has the number {number}")
+    }
+}
+
+impl Error for UnknownSide {}
 
 impl From<Side> for u32 {
     ghost from_gives = { λ side number. number ≡ side_number side };

@@ -1,37 +1,22 @@
 // A table of outside venues: at most one bid and one offer for each venue, 1 to 32, and a halted mark.
 ghost use Rattle.std.specs.Prelude.{◌≡◌, length};
 ghost use Rattle.std.specs.List.{slice_get};
-ghost use Rattle.market.specs.Venues.{quote_of, listed};
+ghost use Rattle.market.specs.Marks.{listed, WellListed};
+ghost use Rattle.market.specs.MarkLaws.{WellListed-prop};
 
 use crate::limits::VENUES;
+use crate::mark::Mark;
 use crate::quote::Quote;
 
-// The price and the shares that a venue quotes on a side. (`Level`, in a crate above this, is what can trade.)
-#[derive(Clone, Copy, Debug, PartialEq, Eq, Hash)]
-pub(crate) struct Mark {
-    pub(crate) price: u32,
-    pub(crate) shares: u32,
-}
-
-// The first slot of a side belongs to venue 1. Fixed memory: a slot for each venue.
+// The first slot of a side belongs to venue 1. Fixed memory: a slot for each venue. Whoever has a table knows what each side lists:
+// quotes by rising venue, each venue from 1 to 32, each quote fit.
 #[derive(Clone, Copy, Debug, PartialEq, Eq, Hash)]
 pub struct VenueTable {
     pub(crate) bids: [Option<Mark>; VENUES],
     pub(crate) offers: [Option<Mark>; VENUES],
     pub(crate) halted: bool,
-}
-
-impl Mark {
-    // What the venue quotes.
-    fn quote(self, venue: u32) -> Quote
-        ensures { result ≡ quote_of self venue }
-    {
-        Quote {
-            price: self.price,
-            shares: self.shares,
-            venue,
-        }
-    }
+    pub ghost bids_listed: { WellListed (listed 1 bids) } by { WellListed-prop (listed 1 bids) },
+    pub ghost offers_listed: { WellListed (listed 1 offers) } by { WellListed-prop (listed 1 offers) },
 }
 
 // How many slots hold a mark.

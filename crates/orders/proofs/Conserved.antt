@@ -1,5 +1,5 @@
 -- Why no change loses a share, and what handing out leaves in all.
-use Rattle.std.proofs.Common.{◌≡◌, ℕ, suc, ◌+◌, ◌-◌, min, true, List, [], ◌∷◌, ◌++◌, length, Some, sum_by, refl, ap, ◌∙◌, arith}
+use Rattle.std.proofs.Common.{rules, ◌≡◌, ℕ, suc, ◌+◌, ◌-◌, min, true, List, [], ◌∷◌, ◌++◌, length, Some, sum_by, refl, ap, ◌∙◌, arith}
 use Rattle.std.proofs.lemmas.List.Sums.{sum_by-cons}
 use Rattle.std.proofs.lemmas.Bool.Decides.{nat_tests}
 use Rattle.orders.specs.declared.order.Class.{Class}
@@ -9,7 +9,7 @@ use Rattle.orders.specs.declared.row.OrderRow.{OrderRow}
 use Rattle.orders.specs.Orders.{class_number, class_numbered}
 use Rattle.orders.specs.Rows.{is_whole, entered_row}
 use Rattle.orders.specs.Tables.{available, if_whole, handed}
-use Rattle.orders.specs.Laws.{KeptWhole}
+use Rattle.orders.specs.Laws.{KeptWhole, OnlyMoved}
 
 pub class_numbered_lem : (x : Class) → class_numbered (class_number x) ≡ Some x
 class_numbered_lem Displayed = refl
@@ -25,6 +25,15 @@ stays_whole w h = record {
   here = λ n. grind (arith, nat_tests);
   out = λ n. grind (arith, nat_tests);
   settled = λ shares filled late. grind (arith, nat_tests);
+}
+
+pub stays_moved : (w : OrderRow) → OnlyMoved w
+stays_moved w = record {
+  cancelled = search rules;
+  here = λ n. search rules;
+  out = λ n. search rules;
+  settled = λ shares filled late. search rules;
+  on = λ v u h k. search rules;
 }
 
 pub length_handed : (g : ℕ → OrderRow → OrderRow) (k : ℕ) (ws : List OrderRow) → length (handed g k ws) ≡ length ws

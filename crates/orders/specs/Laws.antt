@@ -1,15 +1,41 @@
 -- Laws of the rows that hold whatever they hold.
-use Rattle.std.specs.Prelude.{◌≡◌, ℕ, ◌+◌, ◌-◌, min, Bool, true, List, ◌++◌, Some, sum_by}
+use Rattle.std.specs.Prelude.{◌≡◌, ℕ, ◌+◌, ◌-◌, ◌<◌, ◌≤◌, ◌↔◌, ◌⊎◌, min, Bool, true, List, ◌++◌, Some, sum_by, nat_lt}
+use Rattle.market.specs.Prices.{Permitted}
+use Rattle.market.specs.Rankings.{higher, lower}
 use Rattle.orders.specs.declared.order.Class.{Class}
 use Rattle.orders.specs.declared.order.Order.{Order}
 use Rattle.orders.specs.declared.row.OrderRow.{OrderRow}
-use Rattle.orders.specs.Orders.{class_number, class_numbered}
-use Rattle.orders.specs.Rows.{is_whole, entered_row, with_cancelled, with_here, with_out, with_settled}
+use Rattle.orders.specs.Orders.{class_number, class_numbered, well_formed}
+use Rattle.orders.specs.Rankings.{row_ahead}
+use Rattle.orders.specs.Rows.{is_whole, entered_row, with_cancelled, with_here, with_out, with_settled, Moved}
 use Rattle.orders.specs.Tables.{available, handed}
 
 -- each class is found by its number
 abbrev pub ClassesNumbered : Type 0
 ClassesNumbered = (x : Class) → class_numbered (class_number x) ≡ Some x
+
+-- an order has a number, a side, a class, a permitted price and 1 to 1,000,000 shares
+pub record Formed (o : Order) : Type 0 where
+  pub number : 1 ≤ o.number
+  pub side : (o.side ≡ 1) ⊎ (o.side ≡ 2)
+  pub class : o.class ≤ 2
+  pub price : Permitted o.price
+  pub least : 1 ≤ o.shares
+  pub most : o.shares ≤ 1000000
+
+-- it is well formed just then
+abbrev pub OrdersFormed : Type 0
+OrdersFormed = (o : Order) → well_formed o ≡ true ↔ Formed o
+
+-- buys go by higher price and sells by lower price; of one price the lower class goes first, and of one class the lower number
+pub record Ranks (a b : OrderRow) : Type 0 where
+  pub buys : b.price < a.price → row_ahead higher a b ≡ true
+  pub sells : a.price < b.price → row_ahead lower a b ≡ true
+  pub classes : a.price ≡ b.price → a.class < b.class → (row_ahead higher a b ≡ true) × (row_ahead lower a b ≡ true)
+  pub numbers : a.price ≡ b.price → a.class ≡ b.class → (row_ahead higher a b ≡ nat_lt a.number b.number) × (row_ahead lower a b ≡ nat_lt a.number b.number)
+
+abbrev pub OrdersRank : Type 0
+OrdersRank = (a b : OrderRow) → Ranks a b
 
 -- the row of an order just accepted is whole
 abbrev pub EnteredWhole : Type 0
@@ -24,6 +50,17 @@ pub record KeptWhole (w : OrderRow) : Type 0 where
 
 abbrev pub StaysWhole : Type 0
 StaysWhole = (w : OrderRow) → is_whole w ≡ true → KeptWhole w
+
+-- each change leaves a row as it may have become, and so do any changes one after another
+pub record OnlyMoved (w : OrderRow) : Type 0 where
+  pub cancelled : Moved w (with_cancelled w)
+  pub here : (n : ℕ) → Moved w (with_here n w)
+  pub out : (n : ℕ) → Moved w (with_out n w)
+  pub settled : (shares filled : ℕ) (late : Bool) → Moved w (with_settled shares filled late w)
+  pub on : (v u : OrderRow) → Moved w v → Moved v u → Moved w u
+
+abbrev pub StaysMoved : Type 0
+StaysMoved = (w : OrderRow) → OnlyMoved w
 
 -- later rows get only what the rows before them leave of k
 abbrev pub InOrder : Type 0

@@ -1,5 +1,5 @@
 -- What the numbers of an order say, and when it is well formed.
-use Rattle.std.specs.Prelude.{ℕ, Bool, cond, not, ◌&&◌, is_some, Some, None, Option, ◌==◌}
+use Rattle.std.specs.Prelude.{ℕ, Bool, cond, not, ◌&&◌, List, ◌++◌, is_some, Some, None, Option, ◌==◌, codes, decimal}
 use Rattle.market.specs.Prices.{fits}
 pub use Rattle.market.specs.Sides.{side_numbered}
 use Rattle.market.specs.declared.side.Side.{Side}
@@ -19,6 +19,9 @@ class_numbered n = cond (n == 0) (Some Displayed) (cond (n == 1) (Some Reserve) 
 -- a number that no class has
 abbrev pub unknown_class : ℕ → UnknownClass
 unknown_class n = record { 0 = n }
+
+abbrev pub unknown_class_text : ℕ → List ℕ
+unknown_class_text n = codes "no class of orders has number " ++ decimal n
 
 -- a number that is not 0, a side, a class, a permitted price and 1 to 1,000,000 shares
 abbrev pub well_formed : Order → Bool

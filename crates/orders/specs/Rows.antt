@@ -1,5 +1,5 @@
 -- The row of an order, and each change of its counts.
-use Rattle.std.specs.Prelude.{ℕ, ◌+◌, ◌-◌, min, Bool, cond, ◌==◌}
+use Rattle.std.specs.Prelude.{◌≡◌, ℕ, ◌+◌, ◌-◌, ◌≤◌, min, Bool, cond, ◌==◌}
 use Rattle.orders.specs.declared.order.Order.{Order}
 use Rattle.orders.specs.declared.row.OrderRow.{OrderRow}
 use Rattle.orders.specs.declared.record.Destination.{Destination}
@@ -103,3 +103,16 @@ with_settled shares filled late w =
       cancelled = w.cancelled;
       late = w.late + cond late (back shares w - gained shares filled w) 0;
     }
+
+-- what may have become of a row: it is of the same order, what is filled, cancelled or late stays so, and of what does not, no
+-- more is rest or out than was
+pub record Moved (from to : OrderRow) : Type 0 where
+  pub number : to.number ≡ from.number
+  pub class : to.class ≡ from.class
+  pub price : to.price ≡ from.price
+  pub shares : to.shares ≡ from.shares
+  pub here : from.here ≤ to.here
+  pub away : from.away ≤ to.away
+  pub cancelled : from.cancelled ≤ to.cancelled
+  pub late : from.late ≤ to.late
+  pub left : to.rest + to.out ≤ from.rest + from.out

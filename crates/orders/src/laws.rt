@@ -1,10 +1,13 @@
 // Laws of the rows that hold whatever they hold. Contracts stand on functions: what these answer says nothing.
-ghost use Rattle.orders.specs.Laws.{ClassesNumbered, EnteredWhole, StaysWhole, InOrder, HereGains, OutGains};
+ghost use Rattle.orders.specs.Laws.{ClassesNumbered, OrdersFormed, OrdersRank, EnteredWhole, StaysWhole, StaysMoved, InOrder, HereGains, OutGains};
 
 pub fn order_laws() -> u8
     ensures classes { ClassesNumbered }
+    ensures formed { OrdersFormed }
+    ensures ranks { OrdersRank }
     ensures entered { EnteredWhole }
     ensures whole { StaysWhole }
+    ensures moved { StaysMoved }
     ensures order { InOrder }
     ensures here { HereGains }
     ensures out { OutGains }

@@ -3,7 +3,8 @@ ghost use Rattle.std.specs.Prelude.{◌≡◌, is_some};
 
 use market::price::entry_fits;
 use market::side::Side;
-use thiserror::Error;
+use std::error::Error;
+use std::fmt;
 
 // A member can enter any numbers; an order that is not well formed is refused.
 #[repr(C)]
@@ -25,9 +26,22 @@ pub enum Class {
 }
 
 // A number that no class has.
-#[derive(Clone, Copy, Debug, PartialEq, Eq, Hash, Error)]
-#[error("no class of orders has number {0}")]
+#[derive(Clone, Copy, Debug, PartialEq, Eq, Hash)]
 pub struct UnknownClass(pub u32);
+
+impl fmt::Display for UnknownClass {
+    ghost use Rattle.std.specs.Prelude.{Some};
+    ghost use Rattle.orders.specs.Orders.{unknown_class_text};
+
+    ghost output = { λ unknown. Some (unknown_class_text unknown.0) };
+
+    fn fmt<W: fmt::Write>(&self, f: &mut fmt::Formatter<W>) -> fmt::Result {
+        let number = self.0;
+        write!(f, "no class of orders has number {number}")
+    }
+}
+
+impl Error for UnknownClass {}
 
 impl TryFrom<u32> for Class {
     type Error = UnknownClass;

@@ -3,31 +3,46 @@ ghost use Rattle.std.specs.Prelude.{◌≡◌, true, min};
 ghost use Rattle.orders.specs.Rows.{is_whole, with_cancelled, with_settled, sent};
 
 use crate::row::OrderRow;
+use std::error::Error;
+use std::fmt;
 use std::marker::Model;
-use thiserror::Error;
 
-#[derive(Clone, Copy, Debug, PartialEq, Eq)]
+// It keeps the row that it was made of, so that its type can say what may have become of that row since.
+#[derive(Debug, Drop)]
 pub struct OrderRecord {
     row: OrderRow,
+    made_of: OrderRow,
 }
 
 impl Model for OrderRecord {
     ghost use Rattle.std.specs.Prelude.{◌≡◌, ◌+◌};
     ghost use Rattle.orders.specs.declared.row.OrderRow.{OrderRow};
+    ghost use Rattle.orders.specs.Rows.{Moved};
 
     ghost Value = { OrderRow };
 
     ghost view = { λ a. a.row };
 
-    ghost invariant = { λ a. a.row.shares ≡ a.row.rest + a.row.here + a.row.away + a.row.out + a.row.cancelled + a.row.late };
-
-    ghost inverse = { λ w. record { row = w } };
+    ghost invariant = { λ a. (a.row.shares ≡ a.row.rest + a.row.here + a.row.away + a.row.out + a.row.cancelled + a.row.late) × Moved a.made_of a.row };
 }
 
 // A row whose counts do not add up.
-#[derive(Clone, Copy, Debug, PartialEq, Eq, Hash, Error)]
-#[error("the counts of order {} do not add up", .0.number)]
+#[derive(Clone, Copy, Debug, PartialEq, Eq, Hash)]
 pub struct NotWhole(pub OrderRow);
+
+impl fmt::Display for NotWhole {
+    ghost use Rattle.std.specs.Prelude.{Some};
+    ghost use Rattle.orders.specs.Records.{not_whole_text};
+
+    ghost output = { λ row. Some (not_whole_text row.0) };
+
+    fn fmt<W: fmt::Write>(&self, f: &mut fmt::Formatter<W>) -> fmt::Result {
+        let number = self.0.number;
+        write!(f, "the counts of order {number} do not add up")
+    }
+}
+
+impl Error for NotWhole {}
 
 // Where shares of an order go: they are filled here, or sent out to another venue. A choice of two, and no closure that adds to
 // a count: the definitions speak of it (`sent`).
@@ -48,7 +63,7 @@ impl TryFrom<OrderRow> for OrderRecord {
         let traded = u64::from(row.here) + u64::from(row.away) + u64::from(row.out);
         let gone = u64::from(row.cancelled) + u64::from(row.late);
         if u64::from(row.shares) == u64::from(row.rest) + traded + gone {
-            Ok(OrderRecord { row })
+            Ok(OrderRecord { row, made_of: row })
         } else {
             Err(NotWhole(row))
         }

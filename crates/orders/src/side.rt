@@ -1,5 +1,5 @@
 // Work on the rows of one side. A row whose counts do not add up is left as it is.
-ghost use Rattle.std.specs.Prelude.{◌≡◌, ◌*◌, ◌≤◌, ◌<◌, ◌↔◌, true, IfSome, IsSome, IfNone, min, map, length, sum_by, slice_index_or, slice_set};
+ghost use Rattle.std.specs.Prelude.{◌≡◌, ◌*◌, ◌≤◌, ◌<◌, ◌↔◌, true, IfSome, IsSome, IfNone, is_some, min, map, length, sum_by, slice_index_or, slice_set};
 ghost use Rattle.std.specs.Fn.{FnOnceReturnsAtMut};
 ghost use Rattle.orders.specs.Rows.{empty_row, is_whole, with_cancelled, with_settled, sent};
 ghost use Rattle.orders.specs.Tables.{before, available, if_whole, changed_at, place_of, handed};
@@ -61,6 +61,14 @@ fn rows_before(rows: &[OrderRow], number: u32) -> usize
     rows.len()
 }
 
+// Whether a row has a number.
+pub fn has_number(rows: &[OrderRow], number: u32) -> bool
+    ensures { result ≡ is_some (place_of number rows.now) }
+{
+    rows.iter()
+        .fold(false, |found, row| found | (row.number == number))
+}
+
 // The place of the first row with a number, if any.
 pub fn find(rows: &[OrderRow], number: u32) -> Option<usize>
     ensures { result ≡ place_of number rows.now }
@@ -98,7 +106,9 @@ pub fn hand_out(rows: &mut [OrderRow], shares: u64, to: Destination) -> u64
 {
     let mut left = shares;
     for row in rows {
-        left -= send_row(row, left, to);
+        if left > 0 {
+            left -= send_row(row, left, to);
+        }
     }
     shares - left
 }

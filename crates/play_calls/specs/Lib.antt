@@ -1,3 +1,4 @@
 pub mod Digests
 pub mod Replies
 pub mod Turns
+pub mod Sessions

@@ -2,11 +2,12 @@
 
 // Plays calls on an engine: a line of standard input is a call, a change of the venues or a new engine, and a line of standard
 // output its answer with a digest of the engine and of every table.
-ghost use Rattle.play_calls.specs.Turns.{Played};
+ghost use Rattle.play_calls.specs.Turns.{Played, GoesOn};
 
 mod digest;
 mod line;
 mod reply;
+mod session;
 
 use desk::desk::Desk;
 use digest::digest_of;
@@ -14,11 +15,13 @@ use engine::state::Engine;
 use line::Turn;
 use market::refusal::Refusal;
 use reply::Reply;
+use session::Session;
 use std::io::{BufRead, BufReader};
 
 // Does what a line says: the turns are a closed list, each with values of its own.
 fn play(desk: &mut Desk, turn: Turn) -> Result<Reply, Refusal>
-    ensures { Played desk.old turn desk.new result }
+    ensures played { Played desk.old turn desk.new result }
+    ensures goes_on { GoesOn desk.old turn desk.new result }
 {
     match turn {
         Turn::Quote {
@@ -37,11 +40,11 @@ fn play(desk: &mut Desk, turn: Turn) -> Result<Reply, Refusal>
 }
 
 fn main(rt: HostRuntime) -> anyhow::Result<()> {
-    let mut desk = Desk::new();
+    let mut session = Session::new();
     for text in BufReader::new(rt.alloc(), rt.stdin())?.lines(rt.alloc()) {
         let turn = text?.as_str().parse::<Turn>()?;
-        let played = play(&mut desk, turn);
-        let digest = digest_of(&desk);
+        let played = session.play(turn);
+        let digest = digest_of(&session.desk);
         match played {
             Ok(reply) => println!(rt; "ok{reply} {digest:016x}")?,
             Err(refusal) => {

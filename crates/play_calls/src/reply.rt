@@ -2,7 +2,8 @@
 ghost use Rattle.std.specs.Prelude.{Some};
 ghost use Rattle.play_calls.specs.Replies.{reply_text};
 
-use engine::answer::Answer;
+use engine::answer::{Answer, Closing, Numbers};
+use engine::outstanding::OutstandingNumbers;
 use std::fmt;
 
 #[derive(Clone, Copy, Debug, PartialEq, Eq)]
@@ -12,29 +13,28 @@ pub enum Reply {
     Outstanding(Option<u32>),
 }
 
-// The numbers of an answer, a blank before each. Those of a close are 0 where it has none, and so is no ticket.
+// The numbers of an answer that a call of its kind has, a blank before each: the shares, or cause, price, count and tickets.
 impl fmt::Display for Reply {
     ghost output = { λ reply. Some (reply_text reply) };
 
     fn fmt<W: fmt::Write>(&self, f: &mut fmt::Formatter<W>) -> fmt::Result {
         match *self {
             Reply::Done | Reply::Called(Answer::Done) => Ok(()),
-            Reply::Called(Answer::Cancelled { shares } | Answer::Executed { shares }) => {
+            Reply::Called(answer @ (Answer::Cancelled { .. } | Answer::Executed { .. })) => {
+                let shares = Numbers::from(Ok(answer)).shares;
                 write!(f, " {shares}")
             }
-            Reply::Called(
-                Answer::Priced {
+            Reply::Called(answer @ (Answer::Priced { .. } | Answer::Unpriced { .. })) => {
+                let Closing {
+                    cause,
                     price,
                     count,
                     tickets,
-                },
-            ) => write!(f, " 0 {price} {count} {tickets}"),
-            Reply::Called(Answer::Unpriced { cause }) => {
-                let cause = u32::from(cause);
-                write!(f, " {cause} 0 0 0")
+                } = Numbers::from(Ok(answer)).closing;
+                write!(f, " {cause} {price} {count} {tickets}")
             }
             Reply::Outstanding(ticket) => {
-                let ticket = ticket.unwrap_or(0);
+                let ticket = OutstandingNumbers::from(Ok(ticket)).ticket;
                 write!(f, " {ticket}")
             }
         }

@@ -10,7 +10,6 @@ use market::side::Side;
 use market::source::QuoteSource;
 use pricing::cause::Cause;
 use pricing::close::reference_price;
-use pricing::snap::Snap;
 use pricing::view::BookView;
 use report::numbers::{Column, Dollars, Grouped};
 use std::alloc::{AllocError, Global};
@@ -29,22 +28,27 @@ pub fn print_request(rt: &HostRuntime, request: &Request, bytes: usize) -> io::R
 
 // The word for a side is another for orders than for quotes, so it goes with the side.
 fn print_orders(rt: &HostRuntime, book: &BookImage<'_>, side: Side, name: &str) -> io::Result<()> {
-    for order in book.orders(side).levels() {
-        let shares = Column::<14>(u64::from(order.shares));
-        let points = Column::<14>(u64::from(order.price));
-        let dollars = Dollars(order.price);
-        println!(rt; "  {name:<9}{shares}{points}   {dollars}")?;
+    // The reader is questioned by place, and answers none past the end.
+    for place in 0..book.orders(side).len() {
+        if let Some(order) = book.order(side, place) {
+            let shares = Column::<14>(u64::from(order.shares));
+            let points = Column::<14>(u64::from(order.price));
+            let dollars = Dollars(order.price);
+            println!(rt; "  {name:<9}{shares}{points}   {dollars}")?;
+        }
     }
     Ok(())
 }
 
 fn print_quotes(rt: &HostRuntime, book: &BookImage<'_>, side: Side, name: &str) -> io::Result<()> {
-    for quote in book.quotes(side) {
-        let venue = quote.venue;
-        let shares = Column::<14>(u64::from(quote.shares));
-        let points = Column::<14>(u64::from(quote.price));
-        let dollars = Dollars(quote.price);
-        println!(rt; "  {name:<6}{venue:<3}{shares}{points}   {dollars}")?;
+    for place in 0..book.count(side) {
+        if let Some(quote) = book.quote(side, place) {
+            let venue = quote.venue;
+            let shares = Column::<14>(u64::from(quote.shares));
+            let points = Column::<14>(u64::from(quote.price));
+            let dollars = Dollars(quote.price);
+            println!(rt; "  {name:<6}{venue:<3}{shares}{points}   {dollars}")?;
+        }
     }
     Ok(())
 }
@@ -114,9 +118,9 @@ fn print_reference(
     println!(rt; "reference  {dollars} ({points} points), {origin}")
 }
 
-fn print_cause(rt: &HostRuntime, outcome: Result<Snap, Cause>) -> io::Result<()> {
+fn print_cause(rt: &HostRuntime, outcome: Result<(u32, u64), Cause>) -> io::Result<()> {
     match outcome {
-        Ok(Snap { price, count }) => {
+        Ok((price, count)) => {
             let dollars = Dollars(price);
             let points = Grouped(u64::from(price));
             let count = Grouped(count);
@@ -135,7 +139,7 @@ pub fn print_outcome(
     rt: &HostRuntime,
     book: &BookImage<'_>,
     last_sale: Option<u32>,
-    outcome: Result<Snap, Cause>,
+    outcome: Result<(u32, u64), Cause>,
 ) -> io::Result<()> {
     let reference = reference_price(
         last_sale.unwrap_or(0),
@@ -143,7 +147,7 @@ pub fn print_outcome(
         book.best_quote(Side::Sell),
     );
     let middle = match outcome {
-        Ok(snap) => snap.price,
+        Ok((price, _)) => price,
         Err(_) => reference.unwrap_or(book.next_price(0)),
     };
     print_around(rt, book, middle)?;

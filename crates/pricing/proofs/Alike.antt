@@ -97,7 +97,7 @@ module _ {a b : Book} (like : Alike a b) where
   }
 
   snapped_like : (ref : Option ℕ) (x : Outcome) → Snapped a ref x → Snapped b ref x
-  snapped_like ref (Ok x) s = (something_like s.0, priced_like ref x.price x.count s.1)
+  snapped_like ref (Ok x) s = (something_like s.0, priced_like ref x.0 x.1 s.1)
   snapped_like ref (Err NothingToTrade) s = nothing_like s
   snapped_like ref (Err LockedOrCrossed) s = s
   snapped_like ref (Err NoReference) s = (something_like s.0, undecided_like ref s.1)

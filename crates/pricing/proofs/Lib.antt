@@ -8,3 +8,4 @@ pub mod Executable
 pub mod Outcomes
 pub mod Standing
 pub mod Alike
+pub mod Quoted

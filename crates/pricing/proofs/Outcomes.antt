@@ -3,7 +3,6 @@ use Rattle.std.proofs.Common.{rules, ◌≡◌, ℕ, ◌<◌, ◌≤◌, Bool, t
 use Rattle.std.proofs.lemmas.Bool.{both_ways}
 use Rattle.pricing.specs.declared.cause.Cause.TheVariants.{NothingToTrade, LockedOrCrossed, NoReference, Halted}
 use Rattle.market.specs.declared.side.Side.TheVariants.{Buy, Sell}
-use Rattle.pricing.specs.declared.snap.Snap.{Snap}
 use Rattle.pricing.specs.Books.{Book, Sound, count_at}
 use Rattle.pricing.specs.Candidates.{Candidate, Only, Chosen, SnapPrice}
 use Rattle.pricing.specs.Closing.{Outcome, Best, Nothing, Undecided, Priced, Snapped, Closing, Orderly, touching, best_on, reference}
@@ -61,14 +60,14 @@ module _ (b : Book) (sound : Sound b) (lo : ℕ) (l : Lowest b lo) where
     }
 
 -- one outcome at most
-undecided_priced : (b : Book) (ref : Option ℕ) (p n : ℕ) → Undecided b ref → Priced b ref p n → ⊥
+pub undecided_priced : (b : Book) (ref : Option ℕ) (p n : ℕ) → Undecided b ref → Priced b ref p n → ⊥
 undecided_priced b ref p n u x =
     let only : Only (Candidate b) p = subst (λ r. SnapPrice b r p) u.none x.price_is in
     omega (arith, only.alone u.low u.low_of, only.alone u.high u.high_of, u.order)
 
-priced_once : (b : Book) (ref : Option ℕ) (x y : Snap) → Priced b ref x.price x.count → Priced b ref y.price y.count → x ≡ y
+priced_once : (b : Book) (ref : Option ℕ) (x y : ℕ × ℕ) → Priced b ref x.0 x.1 → Priced b ref y.0 y.1 → x ≡ y
 priced_once b ref x y a c =
-    let price = chosen_once (Candidate b) ref x.price y.price a.price_is c.price_is in
+    let price = chosen_once (Candidate b) ref x.0 y.0 a.price_is c.price_is in
     let count = a.count_is ∙ ap (count_at b) price ∙ sym c.count_is in
     search (rules, price, count)
 
@@ -76,7 +75,7 @@ pub snapped_once : (b : Book) (ref : Option ℕ) (x y : Outcome) → Snapped b r
 snapped_once b ref (Ok x) (Ok y) s t = ap Ok (priced_once b ref x y s.1 t.1)
 snapped_once b ref (Ok x) (Err NothingToTrade) s t = absurd (s.0 t)
 snapped_once b ref (Ok x) (Err LockedOrCrossed) s t = absurd t
-snapped_once b ref (Ok x) (Err NoReference) s t = absurd (undecided_priced b ref x.price x.count t.1 s.1)
+snapped_once b ref (Ok x) (Err NoReference) s t = absurd (undecided_priced b ref x.0 x.1 t.1 s.1)
 snapped_once b ref (Ok x) (Err Halted) s t = absurd t
 snapped_once b ref (Err NothingToTrade) (Ok y) s t = absurd (t.0 s)
 snapped_once b ref (Err NothingToTrade) (Err NothingToTrade) s t = refl
@@ -84,7 +83,7 @@ snapped_once b ref (Err NothingToTrade) (Err LockedOrCrossed) s t = absurd t
 snapped_once b ref (Err NothingToTrade) (Err NoReference) s t = absurd (t.0 s)
 snapped_once b ref (Err NothingToTrade) (Err Halted) s t = absurd t
 snapped_once b ref (Err LockedOrCrossed) y s t = absurd s
-snapped_once b ref (Err NoReference) (Ok y) s t = absurd (undecided_priced b ref y.price y.count s.1 t.1)
+snapped_once b ref (Err NoReference) (Ok y) s t = absurd (undecided_priced b ref y.0 y.1 s.1 t.1)
 snapped_once b ref (Err NoReference) (Err NothingToTrade) s t = absurd (s.0 t)
 snapped_once b ref (Err NoReference) (Err LockedOrCrossed) s t = absurd t
 snapped_once b ref (Err NoReference) (Err NoReference) s t = refl
@@ -121,7 +120,7 @@ module _ (halted : Bool) (b : Book) (last : ℕ) where
 
   -- the laws of the best price
   pub best : (x : Outcome) → Sound b → Closing halted b last x → Best b x
-  best (Ok x) sound c = priced_most b (reference b last) x.price x.count c.1.1
+  best (Ok x) sound c = priced_most b (reference b last) x.0 x.1 c.1.1
   best (Err NothingToTrade) sound c = nothing_all b sound c.1
   best (Err LockedOrCrossed) sound c = tt
   best (Err NoReference) sound c = tt

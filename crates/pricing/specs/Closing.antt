@@ -5,12 +5,11 @@ use Rattle.market.specs.declared.side.Side.TheVariants.{Buy, Sell}
 use Rattle.market.specs.Best.{best_price}
 use Rattle.pricing.specs.declared.cause.Cause.{Cause}
 use Rattle.pricing.specs.declared.cause.Cause.TheVariants.{NothingToTrade, LockedOrCrossed, NoReference, Halted}
-use Rattle.pricing.specs.declared.snap.Snap.{Snap}
 use Rattle.pricing.specs.Books.{Book, count_at}
 use Rattle.pricing.specs.Candidates.{Candidate, SnapPrice}
 
 abbrev pub Outcome : Type 0
-Outcome = Result Snap Cause
+Outcome = Result (ℕ × ℕ) Cause
 
 -- the number of each cause; a price has the number 0
 abbrev pub cause_number : Cause → ℕ
@@ -25,11 +24,11 @@ outcome_number (Err cause) = cause_number cause
 
 -- the price and the count of an outcome, 0 where there is no price
 abbrev pub outcome_price : Outcome → ℕ
-outcome_price (Ok x) = x.price
+outcome_price (Ok x) = x.0
 outcome_price (Err cause) = 0
 
 abbrev pub outcome_count : Outcome → ℕ
-outcome_count (Ok x) = x.count
+outcome_count (Ok x) = x.1
 outcome_count (Err cause) = 0
 
 -- the best price quoted on a side: the highest bid, the lowest offer
@@ -85,7 +84,7 @@ Snapped b ref (Err Halted) = ⊥
 Snapped b ref (Err LockedOrCrossed) = ⊥
 Snapped b ref (Err NothingToTrade) = Nothing b
 Snapped b ref (Err NoReference) = (Nothing b → ⊥) × Undecided b ref
-Snapped b ref (Ok x) = (Nothing b → ⊥) × Priced b ref x.price x.count
+Snapped b ref (Ok x) = (Nothing b → ⊥) × Priced b ref x.0 x.1
 
 -- the outcome of a close, the causes in their order: halted, locked or crossed, nothing to trade,
 -- then a price, or several candidates with no reference
@@ -99,7 +98,7 @@ Closing halted b last (Ok x) = Orderly halted b × Snapped b (reference b last) 
 -- the law of the best price: no price counts more than a price that is answered, and where the answer is
 -- that there is nothing to trade, every price counts zero
 abbrev pub Best : Book → Outcome → Type 0
-Best b (Ok x) = (q : ℕ) → count_at b q ≤ x.count
+Best b (Ok x) = (q : ℕ) → count_at b q ≤ x.1
 Best b (Err NothingToTrade) = (q : ℕ) → count_at b q ≡ 0
 Best b (Err LockedOrCrossed) = Unit {0}
 Best b (Err NoReference) = Unit {0}

@@ -1,9 +1,12 @@
 -- What holds of every book, in the words of the rules.
-use Rattle.std.specs.Prelude.{◌≡◌, ℕ, ◌+◌, ◌%◌, ◌≤◌, Bool, Option}
+use Rattle.std.specs.Prelude.{◌≡◌, ℕ, ◌+◌, ◌/◌, ◌%◌, ◌≤◌, ◌↔◌, ◌⊎◌, Bool, true, [], Some, None, Option}
+use Rattle.std.specs.List.{Any}
+use Rattle.market.specs.declared.side.Side.TheVariants.{Buy, Sell}
+use Rattle.market.specs.Laws.{IsBest}
 use Rattle.market.specs.Prices.{Permitted}
 use Rattle.pricing.specs.Books.{Book, Sound, count_at}
 use Rattle.pricing.specs.Candidates.{Clears, Candidate, SnapPrice}
-use Rattle.pricing.specs.Closing.{Outcome, Closing, Nothing}
+use Rattle.pricing.specs.Closing.{Outcome, Closing, Nothing, best_on, touching, reference}
 
 -- a price that clears, permitted or not, counts most among all prices
 abbrev pub ClearingCountsMost : Type 0
@@ -33,3 +36,21 @@ OneOutcome = (halted : Bool) (b : Book) (last : ℕ) (x y : Outcome) → Closing
 -- the midpoint of two permitted prices is whole
 abbrev pub MidpointWhole : Type 0
 MidpointWhole = (bid offer : ℕ) → Permitted bid → Permitted offer → (bid + offer) % 2 ≡ 0
+
+-- the only candidate is the price, whatever the reference
+abbrev pub OnlyPrices : Type 0
+OnlyPrices = (b : Book) (ref : Option ℕ) (p : ℕ) → Candidate b p → ((q : ℕ) → Candidate b q → q ≡ p) → SnapPrice b ref p
+
+-- the reference is the last eligible sale, where there is one, else halfway between the best bid and the best offer; where one of
+-- them is missing too, there is none
+pub record References (b : Book) (last : ℕ) : Type 0 where
+  pub sale : 1 ≤ last → reference b last ≡ Some last
+  pub midway : last ≡ 0 → (bid offer : ℕ) → IsBest Buy b.bids bid → IsBest Sell b.offers offer → reference b last ≡ Some ((bid + offer) / 2)
+  pub none : last ≡ 0 → (b.bids ≡ []) ⊎ (b.offers ≡ []) → reference b last ≡ None
+
+abbrev pub ReferenceIs : Type 0
+ReferenceIs = (b : Book) (last : ℕ) → References b last
+
+-- the market is locked or crossed exactly where some bid is at or above some offer
+abbrev pub TouchingIs : Type 0
+TouchingIs = (b : Book) → touching (best_on Buy b) (best_on Sell b) ≡ true ↔ Any (λ x. Any (λ z. z.price ≤ x.price) b.offers) b.bids

@@ -1,12 +1,12 @@
 // Why a close fixes no price. A close that fixes one has the cause number 0.
-ghost use Rattle.std.specs.Prelude.{◌≡◌};
+ghost use Rattle.std.specs.Prelude.{◌≡◌, Some};
 ghost use Rattle.pricing.specs.Closing.{cause_number};
 ghost use Rattle.pricing.specs.Causes.{cause_words};
 
-use thiserror::Error;
+use std::error::Error;
+use std::fmt;
 
-#[derive(Clone, Copy, Debug, PartialEq, Eq, Hash, Error)]
-#[error("{}", self.words())]
+#[derive(Clone, Copy, Debug, PartialEq, Eq, Hash)]
 pub enum Cause {
     NothingToTrade = 1,
     LockedOrCrossed = 2,
@@ -15,7 +15,7 @@ pub enum Cause {
 }
 
 impl Cause {
-    // What it says, in words: a function of its own, since a derived Display has no contract.
+    // What it says, in words.
     pub fn words(self) -> &'static str
         ensures { result.now ≡ cause_words self }
     {
@@ -29,6 +29,18 @@ impl Cause {
         }
     }
 }
+
+// Written by hand: a derived Display has no contract.
+impl fmt::Display for Cause {
+    ghost output = { λ cause. Some (cause_words cause) };
+
+    fn fmt<W: fmt::Write>(&self, f: &mut fmt::Formatter<W>) -> fmt::Result {
+        let words = self.words();
+        write!(f, "{words}")
+    }
+}
+
+impl Error for Cause {}
 
 impl From<Cause> for u32 {
     ghost from_gives = { λ cause number. number ≡ cause_number cause };

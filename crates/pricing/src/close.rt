@@ -5,9 +5,8 @@ ghost use Rattle.pricing.specs.Books.{Sound, count_at};
 ghost use Rattle.pricing.specs.Closing.{Best, Closing, Orderly, Snapped, touching, reference_of};
 
 use crate::cause::Cause;
-use crate::ladder::nearest;
+use crate::ladder::{PRICES, nearest, place_near};
 use crate::range::{highest, lowest};
-use crate::snap::Snap;
 use crate::view::BookView;
 use market::side::Side;
 
@@ -31,27 +30,27 @@ pub fn reference_price(last_sale: u32, bid: Option<u32>, offer: Option<u32>) -> 
 }
 
 // The SNAP Price under a reference, and its count.
-fn snap<B: BookView>(view: &B, reference: Option<u32>) -> Result<Snap, Cause>
+fn snap<B: BookView>(view: &B, reference: Option<u32>) -> Result<(u32, u64), Cause>
     ensures { Sound (B.book view.now) → Snapped (B.book view.now) reference result }
 {
-    let low = lowest(view);
+    let low = lowest(view, reference.map_or(PRICES / 2, place_near));
     let high = highest(view, low);
     let count = view.count_at(low);
     if count == 0 {
         return Err(Cause::NothingToTrade);
     }
     if low == high {
-        return Ok(Snap { price: low, count });
+        return Ok((low, count));
     }
     let Some(reference) = reference else {
         return Err(Cause::NoReference);
     };
     let price = nearest(low, high, reference);
-    Ok(Snap { price, count })
+    Ok((price, count))
 }
 
 // The outcome by the order of the causes.
-fn settle<B: BookView>(view: &B, halted: bool, last_sale: u32) -> Result<Snap, Cause>
+fn settle<B: BookView>(view: &B, halted: bool, last_sale: u32) -> Result<(u32, u64), Cause>
     ensures { Sound (B.book view.now) → Closing halted (B.book view.now) last_sale result }
 {
     if halted {
@@ -70,7 +69,7 @@ fn settle<B: BookView>(view: &B, halted: bool, last_sale: u32) -> Result<Snap, C
 //
 // The outcome of a close on a book of permitted prices: the SNAP Price and its count, or the cause why
 // there is none. On any other book it answers too, but its answer is free.
-pub fn close_price<B: BookView>(view: &B, halted: bool, last_sale: u32) -> Result<Snap, Cause>
+pub fn close_price<B: BookView>(view: &B, halted: bool, last_sale: u32) -> Result<(u32, u64), Cause>
     ensures outcome { Sound (B.book view.now) → Closing halted (B.book view.now) last_sale result }
     ensures best { Sound (B.book view.now) → Best (B.book view.now) result }
     ensures nothing { Sound (B.book view.now) → Orderly halted (B.book view.now) → ((q : ℕ) → count_at (B.book view.now) q ≡ 0) → result ≡ Err NothingToTrade }

@@ -63,3 +63,12 @@ pub(crate) fn nearest(low: u32, high: u32, reference: u32) -> u32
     let (below, above) = neighbours(reference);
     nearer(reference, below, above)
 }
+
+// Where a price stands about, among the permitted ones.
+pub(crate) fn place_near(price: u32) -> u32 {
+    if price < DOLLAR {
+        price / FINE_STEP
+    } else {
+        FINE_PRICES + 1 + (price - DOLLAR) / CENT
+    }
+}

@@ -6,5 +6,4 @@ pub mod ladder;
 pub mod laws;
 pub mod level;
 pub mod range;
-pub mod snap;
 pub mod view;

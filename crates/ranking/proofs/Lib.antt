@@ -2,3 +2,4 @@ pub mod Insertion
 pub mod Orders
 pub mod Listed
 pub mod Ranks
+pub mod Stays

@@ -1,6 +1,19 @@
 // A table with no free row refuses an entry.
-use thiserror::Error;
+ghost use Rattle.std.specs.Prelude.{Some};
+ghost use Rattle.ranking.specs.Texts.{full_text};
 
-#[derive(Clone, Copy, Debug, Default, PartialEq, Eq, Hash, Error)]
-#[error("no row is free")]
+use std::error::Error;
+use std::fmt;
+
+#[derive(Clone, Copy, Debug, Default, PartialEq, Eq, Hash)]
 pub struct Full;
+
+impl fmt::Display for Full {
+    ghost output = { λ full. Some full_text };
+
+    fn fmt<W: fmt::Write>(&self, f: &mut fmt::Formatter<W>) -> fmt::Result {
+        write!(f, "no row is free")
+    }
+}
+
+impl Error for Full {}

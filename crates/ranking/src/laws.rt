@@ -3,7 +3,9 @@ ghost use Rattle.ranking.specs.Laws.{Laws};
 
 use crate::rank::Ranking;
 
-// There is one way at most to put entries into rank order, where no two are level, so entries may come in any order.
+// There is one way at most to put entries into rank order, where no two are level, and two such entries may come in either order.
+// An entry goes behind those that it is not ahead of. Whatever comes one by one ends in rank order, a rearrangement of what came,
+// level ones as they came.
 pub fn ranking_laws<E, R: Ranking<E>>() -> u8
     ensures { Laws R.ahead }
 {

@@ -5,7 +5,7 @@ use Rattle.market.specs.declared.quote.Quote.{Quote}
 use Rattle.orders.specs.declared.row.OrderRow.{OrderRow}
 use Rattle.routing.specs.Shares.{Tie, cell, put, line, lines, ties}
 use Rattle.routing.specs.Tickets.{rests, sizes, ticket_of, tickets}
-use Rattle.routing.specs.Laws.{TiesFew}
+use Rattle.routing.specs.Laws.{TiesFew, TicketsFit}
 use Rattle.routing.proofs.Walk.{line_late, lines_none}
 
 length_put : (i j c : ℕ) (ts : List Tie) → length (put i j c ts) ≡ min 1 c + length ts
@@ -69,3 +69,8 @@ tickets_most n rows quotes = omega (
   length-map rows (λ w. w.rest),
   length-map quotes (λ x. x.shares),
 )
+
+pub tickets_fit : TicketsFit
+tickets_fit a b one one' n rows quotes r q =
+    let within = ties_within n (rests rows) (sizes quotes) (a + b - 1) (omega (arith, length-map rows (λ w. w.rest), length-map quotes (λ x. x.shares))) in
+    omega (arith, length-map (ties n (rests rows) (sizes quotes)) (ticket_of rows quotes), within)

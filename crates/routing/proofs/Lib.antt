@@ -7,3 +7,11 @@ pub mod Tied
 pub mod Allots
 pub mod Owing
 pub mod Cursors
+pub mod Filled
+pub mod Filling
+pub mod Closing
+pub mod Named
+pub mod Totals
+pub mod Each
+pub mod First
+pub mod Quoted

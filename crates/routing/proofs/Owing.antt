@@ -12,7 +12,7 @@ use Rattle.pricing.specs.Books.{Book, quote_level, levels, at_or_above, at_or_be
 use Rattle.pricing.proofs.Levels.{sum_by_map}
 use Rattle.pricing.specs.Closing.{touching, best_on}
 use Rattle.routing.specs.Owed.{better_part, reach_part, better, reach, owed_of}
-use Rattle.routing.specs.Laws.{OneSideOwes, OwedWithin}
+use Rattle.routing.specs.Laws.{OneSideOwes, OwedWithin, QuotedTo, Counted, Beyond}
 
 -- one quote more in a sum
 module _ (p : ℕ) (x : Quote) (xs : List Quote) where
@@ -117,6 +117,24 @@ owed_within Sell b p apart clears =
     let x = better_above p b.bids in
     let y = reach_above p b.bids in
     elim (one_quoted b p apart) [ inl none ↦ omega arith | inr none ↦ omega arith ]
+
+pub quoted_lem : QuotedTo
+quoted_lem p xs = (better_below p xs, better_above p xs, reach_below p xs, reach_above p xs)
+
+pub counted_lem : Counted
+counted_lem b p apart clears =
+    let offers = below_most p (levels b.offers) in
+    let bids = above_most p (levels b.bids) in
+    let buyers = clears.buyers in
+    let sellers = clears.sellers in
+    let u = better_below p b.offers in
+    let v = reach_below p b.offers in
+    let x = better_above p b.bids in
+    let y = reach_above p b.bids in
+    elim (one_quoted b p apart) [ inl none ↦ omega arith | inr none ↦ omega arith ]
+
+pub beyond_lem : Beyond
+beyond_lem b p = (λ more. omega arith, λ more. omega arith)
 
 -- a side owes no more than is quoted
 pub owed_quoted : (side : Side) (p own other : ℕ) (xs : List Quote) → owed_of (better side p xs) (reach side p xs) own other ≤ sum_by (λ x. x.shares) xs

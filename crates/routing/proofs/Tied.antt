@@ -1,5 +1,5 @@
 -- What the ties of one order, and of one quote, come to.
-use Rattle.std.proofs.Common.{◌≡◌, ℕ, zero, suc, ◌+◌, ◌<◌, cond, eqb, List, [], ◌∷◌, ◌++◌, length, get_or, refl, arith}
+use Rattle.std.proofs.Common.{◌≡◌, ℕ, zero, suc, ◌+◌, ◌<◌, ◌≤◌, cond, eqb, List, [], ◌∷◌, ◌++◌, length, get_or, refl, arith}
 use Rattle.std.specs.List.{AllByRecursion}
 use Rattle.std.proofs.ByRecursion.{All-append, All-weaker}
 use Rattle.std.proofs.lemmas.Bool.Decides.{nat_tests}
@@ -7,19 +7,19 @@ use Rattle.routing.specs.Shares.{Tie, start, cell, across, down, put, line, line
 use Rattle.routing.specs.Laws.{OrderTied, QuoteTied}
 use Rattle.routing.proofs.Sums.{across_is, down_is}
 
-of_order_append : (k : ℕ) (xs ys : List Tie) → of_order k (xs ++ ys) ≡ of_order k xs + of_order k ys
+pub of_order_append : (k : ℕ) (xs ys : List Tie) → of_order k (xs ++ ys) ≡ of_order k xs + of_order k ys
 of_order_append k [] ys = omega arith
 of_order_append k (x ∷ xs) ys = omega (arith, of_order_append k xs ys)
 
-of_quote_append : (k : ℕ) (xs ys : List Tie) → of_quote k (xs ++ ys) ≡ of_quote k xs + of_quote k ys
+pub of_quote_append : (k : ℕ) (xs ys : List Tie) → of_quote k (xs ++ ys) ≡ of_quote k xs + of_quote k ys
 of_quote_append k [] ys = omega arith
 of_quote_append k (x ∷ xs) ys = omega (arith, of_quote_append k xs ys)
 
-order_put : (k i j c : ℕ) (ts : List Tie) → of_order k (put i j c ts) ≡ cond (eqb i k) c 0 + of_order k ts
+pub order_put : (k i j c : ℕ) (ts : List Tie) → of_order k (put i j c ts) ≡ cond (eqb i k) c 0 + of_order k ts
 order_put k i j zero ts = grind (arith, nat_tests)
 order_put k i j (suc c) ts = refl
 
-quote_put : (k i j c : ℕ) (ts : List Tie) → of_quote k (put i j c ts) ≡ cond (eqb j k) c 0 + of_quote k ts
+pub quote_put : (k i j c : ℕ) (ts : List Tie) → of_quote k (put i j c ts) ≡ cond (eqb j k) c 0 + of_quote k ts
 quote_put k i j zero ts = grind (arith, nat_tests)
 quote_put k i j (suc c) ts = refl
 
@@ -57,7 +57,7 @@ order_lines (suc d) k n i a (r ∷ rs) j b ss e h =
     grind (arith, nat_tests, of_order_append k (line n i a r j b ss) (lines n (i + 1) (a + r) rs j b ss), order_line k n i a r j b ss, ih)
 
 -- every tie is one of the orders'
-put_all : (P : Tie → Type 0) (i j c : ℕ) (ts : List Tie) → ((s : ℕ) → P (record { order = i; quote = j; shares = s })) → AllByRecursion P ts → AllByRecursion P (put i j c ts)
+pub put_all : (P : Tie → Type 0) (i j c : ℕ) (ts : List Tie) → ((s : ℕ) → P (record { order = i; quote = j; shares = s })) → AllByRecursion P ts → AllByRecursion P (put i j c ts)
 put_all P i j zero ts h a = a
 put_all P i j (suc c) ts h a = (h (suc c), a)
 
@@ -76,6 +76,22 @@ lines_orders n i a (r ∷ rs) j b ss =
 pub ties_orders : (n : ℕ) (rs ss : List ℕ) → AllByRecursion (λ t. t.order < length rs) (ties n rs ss)
 ties_orders n rs ss =
     All-weaker (λ t. t.order < 0 + length rs) (λ t. t.order < length rs) (λ t h. omega arith) (ties n rs ss) (lines_orders n 0 0 rs 0 0 ss)
+
+line_quotes : (n i a r j b : ℕ) (ss : List ℕ) → AllByRecursion (λ t. t.quote < j + length ss) (line n i a r j b ss)
+line_quotes n i a r j b [] = tt
+line_quotes n i a r j b (s ∷ ss) =
+    put_all (λ t. t.quote < j + length (s ∷ ss)) i j (cell n a r b s) (line n i a r (j + 1) (b + s) ss) (λ _. omega arith)
+    (All-weaker (λ t. t.quote < (j + 1) + length ss) (λ t. t.quote < j + length (s ∷ ss)) (λ t h. omega arith) (line n i a r (j + 1) (b + s) ss) (line_quotes n i a r (j + 1) (b + s) ss))
+
+lines_quotes : (n i a : ℕ) (rs : List ℕ) (j b : ℕ) (ss : List ℕ) → AllByRecursion (λ t. t.quote < j + length ss) (lines n i a rs j b ss)
+lines_quotes n i a [] j b ss = tt
+lines_quotes n i a (r ∷ rs) j b ss =
+    All-append (λ t. t.quote < j + length ss) (line n i a r j b ss) (lines n (i + 1) (a + r) rs j b ss) (line_quotes n i a r j b ss) (lines_quotes n (i + 1) (a + r) rs j b ss)
+
+-- and one of the quotes'
+pub ties_quotes : (n : ℕ) (rs ss : List ℕ) → AllByRecursion (λ t. t.quote < length ss) (ties n rs ss)
+ties_quotes n rs ss =
+    All-weaker (λ t. t.quote < 0 + length ss) (λ t. t.quote < length ss) (λ t h. omega arith) (ties n rs ss) (lines_quotes n 0 0 rs 0 0 ss)
 
 pub order_tied : OrderTied
 order_tied n rs ss i h k =
@@ -112,3 +128,9 @@ quote_tied n rs ss j h k =
     let x = rw e at (quote_lines j j n 0 0 rs 0 0 ss (omega arith) h) in
     let y = down_is n 0 rs (start ss j) (get_or ss j 0) in
     (omega arith, λ l. omega arith)
+
+-- a quote's ties never come to more than it has
+pub of_quote_most : (n : ℕ) (rs ss : List ℕ) (j : ℕ) → j < length ss → of_quote j (ties n rs ss) ≤ get_or ss j 0
+of_quote_most n rs ss j h =
+    let e : 0 + start ss j ≡ start ss j = omega arith in
+    omega (arith, rw e at (quote_lines j j n 0 0 rs 0 0 ss (omega arith) h), down_is n 0 rs (start ss j) (get_or ss j 0))

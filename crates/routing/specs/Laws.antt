@@ -1,17 +1,23 @@
 -- What holds of shares that are handed out in rank order, and of ties.
-use Rattle.std.specs.Prelude.{◌≡◌, ℕ, ◌+◌, ◌-◌, ◌<◌, ◌≤◌, min, Bool, false, List, map, length, slice_index, slice_index_or}
+use Rattle.std.specs.Prelude.{◌≡◌, ℕ, ◌+◌, ◌-◌, ◌<◌, ◌≤◌, min, Bool, false, List, ◌∷◌, ◌++◌, map, length, nat_lt, sum_by, slice_index, slice_index_or}
+use Rattle.std.specs.List.{AllByRecursion}
+use Rattle.market.specs.Markets.{no_quote}
 use Rattle.market.specs.declared.side.Side.{Side}
 use Rattle.market.specs.declared.side.Side.TheVariants.{Buy, Sell}
-use Rattle.pricing.specs.Books.{Book}
+use Rattle.pricing.specs.Books.{Book, levels, above, below, at_or_above, at_or_below, count_at}
 use Rattle.pricing.specs.Candidates.{Clears}
 use Rattle.pricing.specs.Closing.{touching, best_on}
 use Rattle.ranking.specs.Ranked.{Sorted, Distinct}
+use Rattle.market.specs.declared.quote.Quote.{Quote}
 use Rattle.orders.specs.declared.row.OrderRow.{OrderRow}
 use Rattle.orders.specs.Rows.{empty_row}
 use Rattle.orders.specs.Tables.{available, if_whole, handed}
-use Rattle.routing.specs.Shares.{total, start, share, given, ties, of_order, of_quote}
-use Rattle.routing.specs.Owed.{executable, owed}
+use Rattle.routing.specs.declared.ticket.Ticket.{Ticket}
+use Rattle.routing.specs.Shares.{Tie, total, start, share, given, ties, of_order, of_quote, order_left, quote_left, room}
+use Rattle.routing.specs.Owed.{better, reach, executable, owed}
+use Rattle.routing.specs.Closes.{close_tickets}
 use Rattle.routing.specs.Allotment.{ahead_of, allotted}
+use Rattle.routing.specs.Tickets.{empty_ticket, rests, sizes, tickets, of_number, to_venue}
 
 -- of k shares as many are handed out as there are, at most k
 abbrev pub HandedOut : Type 0
@@ -38,17 +44,131 @@ QuoteTied = (n : ℕ) (rs ss : List ℕ) (j : ℕ) → j < length ss → n ≤ t
     → (of_quote j (ties n rs ss) ≡ share n (slice_index ss j) (start ss j))
     × (start ss j + slice_index ss j ≤ n → of_quote j (ties n rs ss) ≡ slice_index ss j)
 
+-- a tie, after those before it: as large as its order, its quote and the n shares still allow, and nothing is left of any
+-- order or quote ahead
+pub record Fills (n : ℕ) (rs ss : List ℕ) (before : List Tie) (t : Tie) : Type 0 where
+  pub shares : t.shares ≡ room n rs ss before t.order t.quote
+  pub orders : (i : ℕ) → i < t.order → order_left rs before i ≡ 0
+  pub quotes : (j : ℕ) → j < t.quote → quote_left ss before j ≡ 0
+
+-- ties of which each fills, none is of 0 shares, and after which there is room for no more
+pub record Filling (n : ℕ) (rs ss : List ℕ) (ts : List Tie) : Type 0 where
+  pub each : (before after : List Tie) (t : Tie) → ts ≡ before ++ (t ∷ after) → Fills n rs ss before t
+  pub some : AllByRecursion (λ t. 0 < t.shares) ts
+  pub no_more : (i j : ℕ) → room n rs ss ts i j ≡ 0
+
+-- the ties are such a list, and there is no other
+abbrev pub TiesFill : Type 0
+TiesFill = (n : ℕ) (rs ss : List ℕ) → Filling n rs ss (ties n rs ss)
+
+abbrev pub NoOtherFills : Type 0
+NoOtherFills = (n : ℕ) (rs ss : List ℕ) (ts : List Tie) → Filling n rs ss ts → ts ≡ ties n rs ss
+
+-- orders and quotes are both tied in rank order: no tie is of one that is ahead of that of a tie before it
+abbrev pub TiesRanked : Type 0
+TiesRanked = (n : ℕ) (rs ss : List ℕ)
+    → Sorted (λ t u. nat_lt t.order u.order) (ties n rs ss) × Sorted (λ t u. nat_lt t.quote u.quote) (ties n rs ss)
+
 -- there are fewer ties than orders and quotes together
 abbrev pub TiesFew : Type 0
 TiesFew = (n : ℕ) (rs ss : List ℕ) → 1 ≤ length rs → 1 ≤ length ss → length (ties n rs ss) + 1 ≤ length rs + length ss
+
+-- no other row has the number of the row at a place, and no other quote the venue and the price of the quote at one
+abbrev pub OnlyOrder : List OrderRow → ℕ → Type 0
+OnlyOrder rows i = (k : ℕ) → k < length rows → (slice_index_or rows k empty_row).number ≡ (slice_index_or rows i empty_row).number → k ≡ i
+
+abbrev pub OnlyQuote : List Quote → ℕ → Type 0
+OnlyQuote quotes j = (k : ℕ) → k < length quotes → (slice_index_or quotes k no_quote).venue ≡ (slice_index_or quotes j no_quote).venue
+    → (slice_index_or quotes k no_quote).price ≡ (slice_index_or quotes j no_quote).price → k ≡ j
+
+-- the tickets that name an order are for what it gets of the n shares
+abbrev pub OrderTicketed : Type 0
+OrderTicketed = (n : ℕ) (rows : List OrderRow) (quotes : List Quote) (i : ℕ) → i < length rows → OnlyOrder rows i → n ≤ total (sizes quotes)
+    → of_number (slice_index_or rows i empty_row).number (tickets n rows quotes) ≡ share n (slice_index_or rows i empty_row).rest (start (rests rows) i)
+
+-- the tickets that name the venue and the price of a quote are for what it gets of the n shares
+abbrev pub QuoteTicketed : Type 0
+QuoteTicketed = (n : ℕ) (rows : List OrderRow) (quotes : List Quote) (j : ℕ) → j < length quotes → OnlyQuote quotes j → n ≤ total (rests rows)
+    → to_venue (slice_index_or quotes j no_quote).venue (slice_index_or quotes j no_quote).price (tickets n rows quotes)
+    ≡ share n (slice_index_or quotes j no_quote).shares (start (sizes quotes) j)
+
+-- what the tickets before it allow a ticket: of an order's rest, of a quote's shares, and of the n that are routed
+abbrev pub still : ℕ → OrderRow → Quote → List Ticket → ℕ
+still n w x before = min (min (w.rest - of_number w.number before) (x.shares - to_venue x.venue x.price before)) (n - sum_by (λ t. t.shares) before)
+
+-- a ticket, after those before it: of the order and to the quote at some places, as large as these still allow, and nothing
+-- is left of any order or quote ahead
+pub record AsLarge (n : ℕ) (rows : List OrderRow) (quotes : List Quote) (before : List Ticket) (t : Ticket) : Type 0 where
+  pub i : ℕ
+  pub j : ℕ
+  pub order : (i < length rows) × (t.order ≡ (slice_index_or rows i empty_row).number)
+  pub quote : (j < length quotes) × (t.venue ≡ (slice_index_or quotes j no_quote).venue) × (t.price ≡ (slice_index_or quotes j no_quote).price)
+  pub shares : t.shares ≡ still n (slice_index_or rows i empty_row) (slice_index_or quotes j no_quote) before
+  pub orders_done : (k : ℕ) → k < i → (slice_index_or rows k empty_row).rest ≤ of_number (slice_index_or rows k empty_row).number before
+  pub quotes_done : (k : ℕ) → k < j → (slice_index_or quotes k no_quote).shares ≤ to_venue (slice_index_or quotes k no_quote).venue (slice_index_or quotes k no_quote).price before
+
+-- each ticket is so, where each order is alone with its number and each quote with its venue and price
+abbrev pub TicketsFill : Type 0
+TicketsFill = (n : ℕ) (rows : List OrderRow) (quotes : List Quote) → ((i : ℕ) → i < length rows → OnlyOrder rows i) → ((j : ℕ) → j < length quotes → OnlyQuote quotes j)
+    → (before after : List Ticket) (t : Ticket) → tickets n rows quotes ≡ before ++ (t ∷ after) → AsLarge n rows quotes before t
+
+-- where a ticket goes to a quote, each quote ahead of that one is ticketed whole, of quotes that are each alone with their
+-- venue and price
+abbrev pub QuotesFirst : Type 0
+QuotesFirst = (n : ℕ) (rows : List OrderRow) (quotes : List Quote) → ((j : ℕ) → j < length quotes → OnlyQuote quotes j)
+    → (k i j : ℕ) → k < length (tickets n rows quotes) → i < length quotes → j < i
+    → (slice_index_or (tickets n rows quotes) k empty_ticket).venue ≡ (slice_index_or quotes i no_quote).venue
+    → (slice_index_or (tickets n rows quotes) k empty_ticket).price ≡ (slice_index_or quotes i no_quote).price
+    → to_venue (slice_index_or quotes j no_quote).venue (slice_index_or quotes j no_quote).price (tickets n rows quotes) ≡ (slice_index_or quotes j no_quote).shares
+
+-- of two tables with a and b rows, whatever they hold, come at most a + b - 1 tickets, for every pair of lengths from 1 up
+abbrev pub TicketsFit : Type 0
+TicketsFit = (a b : ℕ) → 1 ≤ a → 1 ≤ b → (n : ℕ) (rows : List OrderRow) (quotes : List Quote) → length rows ≤ a → length quotes ≤ b
+    → length (tickets n rows quotes) + 1 ≤ a + b
+
+-- on all tickets are the n shares, or all that the orders still have, or all that the quotes have, whichever is least
+abbrev pub TicketsTotal : Type 0
+TicketsTotal = (n : ℕ) (rows : List OrderRow) (quotes : List Quote)
+    → sum_by (λ t. t.shares) (tickets n rows quotes) ≡ min n (min (total (rests rows)) (total (sizes quotes)))
+
+-- no tie is of 0 shares
+abbrev pub NoneEmpty : Type 0
+NoneEmpty = (n : ℕ) (rs ss : List ℕ) → AllByRecursion (λ t. 0 < t.shares) (ties n rs ss)
+
+-- no ticket is for 0 shares
+abbrev pub TicketsSome : Type 0
+TicketsSome = (n : ℕ) (rows : List OrderRow) (quotes : List Quote) → AllByRecursion (λ t. 1 ≤ t.shares) (tickets n rows quotes)
 
 -- on a market that is neither locked nor crossed only one side can owe
 abbrev pub OneSideOwes : Type 0
 OneSideOwes = (b : Book) (p : ℕ) → touching (best_on Buy b) (best_on Sell b) ≡ false → 0 < owed Buy b p → owed Sell b p ≡ 0
 
+-- on such a market the tickets of a close are those of what the buys owe to the offers and of what the sells owe to the bids
+abbrev pub CloseTicketed : Type 0
+CloseTicketed = (b : Book) (p : ℕ) → touching (best_on Buy b) (best_on Sell b) ≡ false → (buys sells : List OrderRow) (bids offers : List Quote)
+    → close_tickets b p buys sells bids offers ≡ tickets (owed Buy b p) buys offers ++ tickets (owed Sell b p) sells bids
+
 -- on such a market, at a price that clears, a side owes no more than it has at the price
 abbrev pub OwedWithin : Type 0
 OwedWithin = (side : Side) (b : Book) (p : ℕ) → touching (best_on Buy b) (best_on Sell b) ≡ false → Clears b p → owed side b p ≤ executable side b p
+
+-- what is quoted better than a price for a side, and what at it or better, in the words of a book
+abbrev pub QuotedTo : Type 0
+QuotedTo = (p : ℕ) (xs : List Quote)
+    → (better Buy p xs ≡ below p (levels xs)) × (better Sell p xs ≡ above p (levels xs)) × (reach Buy p xs ≡ at_or_below p (levels xs)) × (reach Sell p xs ≡ at_or_above p (levels xs))
+
+-- on such a market, at a price that clears, what both sides owe and what the rest of both can trade with each other are
+-- together the count
+abbrev pub Counted : Type 0
+Counted = (b : Book) (p : ℕ) → touching (best_on Buy b) (best_on Sell b) ≡ false → Clears b p
+    → count_at b p ≡ (owed Buy b p + owed Sell b p) + min (executable Buy b p - owed Buy b p) (executable Sell b p - owed Sell b p)
+
+-- a side that owes more than is quoted better than a price keeps at least as much as the other side has: at the price
+-- itself it owes only what it has beyond the other side
+abbrev pub Beyond : Type 0
+Beyond = (b : Book) (p : ℕ)
+    → (better Buy p b.offers < owed Buy b p → executable Sell b p ≤ executable Buy b p - owed Buy b p)
+    × (better Sell p b.bids < owed Sell b p → executable Buy b p ≤ executable Sell b p - owed Sell b p)
 
 -- k shares handed out over ranked rows, no two of them level: each row gets what is left of k after the rows ahead of it
 abbrev pub RowsHanded : (OrderRow → OrderRow → Bool) → Type 0

@@ -4,8 +4,7 @@ use Rattle.std.specs.Prelude.{ℕ, ◌+◌, ◌-◌, min, cond, List, sum_by, na
 use Rattle.market.specs.declared.quote.Quote.{Quote}
 use Rattle.market.specs.declared.side.Side.{Side}
 use Rattle.market.specs.declared.side.Side.TheVariants.{Buy, Sell}
-use Rattle.pricing.specs.declared.level.Level.{Level}
-use Rattle.pricing.specs.Books.{Book, at_or_above, at_or_below}
+use Rattle.pricing.specs.Books.{Book, executable_at}
 
 -- the shares of a quote that is better than a price for those who take it: buys take offers below, sells take bids above
 abbrev pub better_part : Side → ℕ → Quote → ℕ
@@ -27,14 +26,10 @@ reach side p quotes = sum_by (reach_part side p) quotes
 abbrev pub owed_of : ℕ → ℕ → ℕ → ℕ → ℕ
 owed_of bettered reached own other = bettered + min (reached - bettered) (own - (bettered + other))
 
--- the executable shares of a side at a price: buys at it or higher, sells at it or lower
-abbrev pub executable_of : Side → ℕ → List Level → ℕ
-executable_of Buy p ls = at_or_above p ls
-executable_of Sell p ls = at_or_below p ls
-
+-- the executable shares of a side's orders at a price
 abbrev pub executable : Side → Book → ℕ → ℕ
-executable Buy b p = executable_of Buy p b.buys
-executable Sell b p = executable_of Sell p b.sells
+executable Buy b p = executable_at Buy p b.buys
+executable Sell b p = executable_at Sell p b.sells
 
 -- buys owe to offers, sells to bids
 abbrev pub owed : Side → Book → ℕ → ℕ

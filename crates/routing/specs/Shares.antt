@@ -1,5 +1,5 @@
 -- Shares on a line: each entry of a ranked list has an interval, which begins where the ones ahead of it end.
-use Rattle.std.specs.Prelude.{ℕ, zero, suc, ◌+◌, ◌-◌, min, max, cond, List, [], ◌∷◌, ◌++◌, take, ◌==◌}
+use Rattle.std.specs.Prelude.{ℕ, zero, suc, ◌+◌, ◌-◌, min, max, cond, List, [], ◌∷◌, ◌++◌, take, ◌==◌, slice_index}
 
 -- shares that tie the order at a place to the quote at a place
 pub record Tie : Type 0 where
@@ -65,3 +65,19 @@ of_order i (t ∷ ts) = cond (t.order == i) t.shares 0 + of_order i ts
 abbrev pub of_quote : ℕ → List Tie → ℕ
 of_quote j [] = 0
 of_quote j (t ∷ ts) = cond (t.quote == j) t.shares 0 + of_quote j ts
+
+-- the shares on all ties
+abbrev pub of_all : List Tie → ℕ
+of_all [] = 0
+of_all (t ∷ ts) = t.shares + of_all ts
+
+-- what some ties leave of the order at a place, which has its rest, and of the quote at a place, which has its size
+abbrev pub order_left : List ℕ → List Tie → ℕ → ℕ
+order_left rs ts i = slice_index rs i - of_order i ts
+
+abbrev pub quote_left : List ℕ → List Tie → ℕ → ℕ
+quote_left ss ts j = slice_index ss j - of_quote j ts
+
+-- how many of n shares can still go from an order to a quote: as many as are left of the order, of the quote and of n
+abbrev pub room : ℕ → List ℕ → List ℕ → List Tie → ℕ → ℕ → ℕ
+room n rs ss ts i j = min (min (order_left rs ts i) (quote_left ss ts j)) (n - of_all ts)

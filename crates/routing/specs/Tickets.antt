@@ -1,5 +1,5 @@
 -- Tickets: the ties of orders and quotes, both in rank order, within the first shares that are routed.
-use Rattle.std.specs.Prelude.{◌≡◌, ℕ, min, false, List, map, length, take, drop, slice_index_or}
+use Rattle.std.specs.Prelude.{◌≡◌, ℕ, min, false, cond, ◌&&◌, ◌==◌, List, map, length, take, drop, slice_index_or, sum_by}
 use Rattle.market.specs.declared.quote.Quote.{Quote}
 use Rattle.market.specs.Markets.{no_quote}
 use Rattle.orders.specs.declared.row.OrderRow.{OrderRow}
@@ -28,6 +28,13 @@ ticket_of rows quotes t = record {
 
 abbrev pub tickets : ℕ → List OrderRow → List Quote → List Ticket
 tickets routed rows quotes = map (ticket_of rows quotes) (ties routed (rests rows) (sizes quotes))
+
+-- the shares on the tickets of an order, and on those that go to a venue at a price
+abbrev pub of_number : ℕ → List Ticket → ℕ
+of_number number ts = sum_by (λ t. cond (t.order == number) t.shares 0) ts
+
+abbrev pub to_venue : ℕ → ℕ → List Ticket → ℕ
+to_venue venue price ts = sum_by (λ t. cond (t.venue == venue && t.price == price) t.shares 0) ts
 
 -- a table that begins with the tickets, and past them is as it was
 pub record Ticketed (routed : ℕ) (rows : List OrderRow) (quotes : List Quote) (before : List Ticket) (count : ℕ) (after : List Ticket) : Type 0 where

@@ -1,6 +1,6 @@
 // Laws of shares that are handed out in rank order, and of what is owed. Contracts stand on functions: what these
 // answer says nothing.
-ghost use Rattle.routing.specs.Laws.{HandedOut, AheadFirst, WalkAllots, RowsHanded, NoneKeptAhead, OrderTied, QuoteTied, TiesFew, OneSideOwes, OwedWithin};
+ghost use Rattle.routing.specs.Laws.{HandedOut, AheadFirst, WalkAllots, RowsHanded, NoneKeptAhead, OrderTied, QuoteTied, TiesFill, NoOtherFills, TiesRanked, TiesFew, OrderTicketed, QuoteTicketed, TicketsFit, NoneEmpty, TicketsSome, OneSideOwes, CloseTicketed, OwedWithin, QuotedTo, Counted, Beyond, TicketsTotal, TicketsFill, QuotesFirst};
 
 use orders::row::OrderRow;
 use ranking::rank::Ranking;
@@ -26,9 +26,24 @@ pub fn row_laws<R: Ranking<OrderRow>>() -> u8
 pub fn ticket_laws() -> u8
     ensures orders { OrderTied }
     ensures quotes { QuoteTied }
+    ensures fill { TiesFill }
+    ensures no_other { NoOtherFills }
+    ensures ranked { TiesRanked }
     ensures few { TiesFew }
+    ensures each { TicketsFill }
+    ensures quotes_first { QuotesFirst }
+    ensures order_ticketed { OrderTicketed }
+    ensures quote_ticketed { QuoteTicketed }
+    ensures fit { TicketsFit }
+    ensures none_empty { NoneEmpty }
+    ensures some { TicketsSome }
     ensures one_side { OneSideOwes }
+    ensures close { CloseTicketed }
     ensures within { OwedWithin }
+    ensures quoted { QuotedTo }
+    ensures counted { Counted }
+    ensures beyond { Beyond }
+    ensures all { TicketsTotal }
 {
     0
 }

@@ -54,7 +54,9 @@ pub fn print_tickets(rt: &HostRuntime, desk: &Desk, when: &str) -> io::Result<()
 }
 
 // Whether a ticket is still out, and which one first.
-pub fn print_outstanding(rt: &HostRuntime, desk: &mut Desk) -> io::Result<()> {
+pub fn print_outstanding(rt: &HostRuntime, desk: &mut Desk) -> io::Result<()>
+    ensures { desk.new ≡ desk.old }
+{
     match desk.outstanding() {
         Ok(Some(ticket)) => println!(rt;
             "  outstanding: ticket {ticket} is the first not reported"

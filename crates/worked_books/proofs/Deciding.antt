@@ -58,11 +58,11 @@ nearest_to lo hi r = cond (leb r lo) lo (cond (leb hi r) hi (nearer_of r (r - r 
 
 abbrev chosen_by : Option ℕ → ℕ → ℕ → ℕ → Outcome
 chosen_by None lo hi n = Err NoReference
-chosen_by (Some r) lo hi n = Ok (record { price = nearest_to lo hi r; count = n })
+chosen_by (Some r) lo hi n = Ok (nearest_to lo hi r, n)
 
 abbrev snapped_by : Book → Option ℕ → ℕ → Outcome
 snapped_by b ref lo =
-    cond (eqb (count_at b lo) 0) (Err NothingToTrade) (cond (eqb lo (high_of b lo)) (Ok (record { price = lo; count = count_at b lo })) (chosen_by ref lo (high_of b lo) (count_at b lo)))
+    cond (eqb (count_at b lo) 0) (Err NothingToTrade) (cond (eqb lo (high_of b lo)) (Ok ((lo, count_at b lo))) (chosen_by ref lo (high_of b lo) (count_at b lo)))
 
 abbrev pub decided : Book → ℕ → ℕ → Outcome
 decided b last lo = cond (touching (best_on Buy b) (best_on Sell b)) (Err LockedOrCrossed) (snapped_by b (reference b last) lo)
@@ -185,14 +185,14 @@ module _ (b : Book) (sound : Sound b) (lo : ℕ) (l : Lowest b lo) where
         priced b sound lo l (high_of b lo) h (Some r) (nearest_to lo (high_of b lo) r) (count_at b lo) (nearest_is lo (high_of b lo) r l.permitted h.permitted (lo_le_hi b sound lo l (high_of b lo) h)) refl,
       )
 
-  single_by : (ref : Option ℕ) (t : Bool) → eqb lo (high_of b lo) ≡ t → 0 < count_at b lo → Snapped b ref (cond t (Ok (record { price = lo; count = count_at b lo })) (chosen_by ref lo (high_of b lo) (count_at b lo)))
+  single_by : (ref : Option ℕ) (t : Bool) → eqb lo (high_of b lo) ≡ t → 0 < count_at b lo → Snapped b ref (cond t (Ok ((lo, count_at b lo))) (chosen_by ref lo (high_of b lo) (count_at b lo)))
   single_by ref true e pos =
       let h = high_is b sound lo l in
       let only = single b sound lo l (high_of b lo) h (eqb-true lo (high_of b lo) e) in
       (something b sound lo l pos, priced b sound lo l (high_of b lo) h ref lo (count_at b lo) (only_chosen (Within lo (high_of b lo)) ref lo only) refl)
   single_by ref false e pos = chosen_right ref pos (eqb-false lo (high_of b lo) e)
 
-  count_by : (ref : Option ℕ) (t : Bool) → eqb (count_at b lo) 0 ≡ t → Snapped b ref (cond t (Err NothingToTrade) (cond (eqb lo (high_of b lo)) (Ok (record { price = lo; count = count_at b lo })) (chosen_by ref lo (high_of b lo) (count_at b lo))))
+  count_by : (ref : Option ℕ) (t : Bool) → eqb (count_at b lo) 0 ≡ t → Snapped b ref (cond t (Err NothingToTrade) (cond (eqb lo (high_of b lo)) (Ok ((lo, count_at b lo))) (chosen_by ref lo (high_of b lo) (count_at b lo))))
   count_by ref true e = nothing b sound lo l (eqb-true (count_at b lo) 0 e)
   count_by ref false e = single_by ref (eqb lo (high_of b lo)) refl (omega (arith, eqb-false (count_at b lo) 0 e))
 

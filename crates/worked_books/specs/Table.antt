@@ -1,8 +1,7 @@
 -- The worked books, each with the outcome that the rules give it, and the tickets of their closes.
-use Rattle.std.specs.Prelude.{◌≡◌, ℕ, false, List, [], ◌∷◌, ◌++◌, map, Some, None, Ok, Err, Option, slice_index_or}
+use Rattle.std.specs.Prelude.{◌≡◌, ℕ, false, List, [], ◌∷◌, map, Some, None, Ok, Err, Option, slice_index_or}
 use Rattle.std.specs.List.{AllByRecursion}
 use Rattle.market.specs.declared.quote.Quote.{Quote}
-use Rattle.market.specs.declared.side.Side.TheVariants.{Buy, Sell}
 use Rattle.pricing.specs.declared.level.Level.{Level}
 use Rattle.pricing.specs.declared.cause.Cause.TheVariants.{NothingToTrade, LockedOrCrossed, NoReference}
 use Rattle.pricing.specs.Books.{Book}
@@ -10,8 +9,7 @@ use Rattle.pricing.specs.Closing.{Outcome, Closing}
 use Rattle.orders.specs.declared.row.OrderRow.{OrderRow}
 use Rattle.orders.specs.Rows.{entered_row}
 use Rattle.routing.specs.declared.ticket.Ticket.{Ticket}
-use Rattle.routing.specs.Owed.{owed}
-use Rattle.routing.specs.Tickets.{tickets}
+use Rattle.routing.specs.Closes.{close_tickets}
 use Rattle.worked_books.specs.declared.books.Worked.{Worked}
 
 -- shares at a price
@@ -34,9 +32,9 @@ book_of w = record { buys = orders w.buy; sells = orders w.sell; bids = quotes w
 abbrev rows : ℕ → List Level → List OrderRow
 rows side ls = map (λ l. entered_row (record { number = side; side = side; class = 0; price = l.price; shares = l.shares })) ls
 
--- the tickets of a close: at a price, those of the buys and then those of the sells
+-- the tickets of a close, where it fixes a price
 abbrev pub routed : Book → Outcome → List Ticket
-routed b (Ok x) = tickets (owed Buy b x.price) (rows 1 b.buys) b.offers ++ tickets (owed Sell b x.price) (rows 2 b.sells) b.bids
+routed b (Ok x) = close_tickets b x.0 (rows 1 b.buys) (rows 2 b.sells) b.bids b.offers
 routed b (Err cause) = []
 
 pub record Example : Type 0 where
@@ -46,7 +44,7 @@ pub record Example : Type 0 where
 
 -- a price and its count
 abbrev snap : ℕ → ℕ → Outcome
-snap price count = Ok (record { price = price; count = count })
+snap price count = Ok ((price, count))
 
 -- no ticket, and a ticket for shares of the buy that are sent to venue 1 at a price
 abbrev none : List Ticket

@@ -2,8 +2,9 @@ use Rattle.market.proofs.Grid.{midpoint_whole}
 use Rattle.pricing.specs.Candidates.{Candidate}
 use Rattle.pricing.proofs.Sides.{counts_most}
 use Rattle.pricing.proofs.Rows.{some_candidate}
-use Rattle.pricing.proofs.Choosing.{chosen_once, price_clears}
+use Rattle.pricing.proofs.Choosing.{chosen_once, price_clears, only_chosen}
 use Rattle.pricing.proofs.Outcomes.{nothing_all, closing_once}
+use Rattle.pricing.proofs.Quoted.{reference_is, touching_is}
 use Rattle.pricing.proofs.laws.price_laws.Goals as goal
 
 pub returns : goal.returns
@@ -15,4 +16,7 @@ returns c = record {
   nothing = λ b sound. (nothing_all b sound, λ none q _. none q);
   outcome = closing_once;
   midpoint = midpoint_whole;
+  only = λ b ref p c alone. only_chosen (Candidate b) ref p (record { candidate = c; alone = alone });
+  reference = reference_is;
+  touching = touching_is;
 }

@@ -1,6 +1,8 @@
 use Rattle.engine.specs.States.{held}
 use Rattle.engine.specs.Effects.{left}
 use Rattle.engine.proofs.Refusing.{call_untouched}
+use Rattle.engine.proofs.Clock.{call_clock}
+use Rattle.engine.proofs.Numbering.{call_numbered}
 use Rattle.engine.proofs.Sizes.{call_sizes}
 use Rattle.engine.proofs.Unread.{call_unread}
 use Rattle.engine.proofs.state.Engine.call.Goals as goal
@@ -15,6 +17,8 @@ returns g c =
       called = c.turn.ensures.called;
       refused = call_untouched e m h c.args.call l c.turn.ensures.called;
       unread = call_unread e m h c.args.call l c.turn.ensures.called;
+      clock = call_clock e m h c.args.call l c.turn.ensures.called;
+      numbers = call_numbered e m h c.args.call l c.turn.ensures.called;
       sizes = call_sizes e m h c.args.call l c.turn.ensures.called;
       names = c.turn.ensures.names;
     }

@@ -1,7 +1,7 @@
 use Rattle.std.proofs.Common.{sym, subst}
 use Rattle.engine.specs.States.{held}
-use Rattle.engine.specs.Outstanding.{Outstanding}
-use Rattle.engine.proofs.Opens.{outstanding_law}
+use Rattle.engine.specs.Outstanding.{Outstanding, outstanding_numbers, NumberedOutstanding}
+use Rattle.engine.proofs.Opens.{outstanding_law, outstanding_numbered}
 use Rattle.engine.proofs.state.Engine.outstanding.Goals as goal
 
 pub returns : goal.returns
@@ -11,4 +11,5 @@ returns c =
     record {
       is = c.first_outstanding.ensures;
       law = subst (λ r. Outstanding e h r) (sym c.first_outstanding.ensures) (outstanding_law e h);
+      numbers = subst (λ r. NumberedOutstanding e h (outstanding_numbers r)) (sym c.first_outstanding.ensures) (outstanding_numbered e h);
     }

@@ -1,4 +1,6 @@
+use Rattle.market.specs.Venues.{market_in}
 use Rattle.market.proofs.Slots.{by_venue}
+use Rattle.market.proofs.Tables.{clear_changes}
 use Rattle.market.proofs.venues.VenueTable.clear.Goals as goal
 
 pub returns-in_err-side-clause-listed : goal.returns-in_err-side-clause-listed
@@ -6,3 +8,6 @@ returns-in_err-side-clause-listed c = by_venue c.args.self.now
 
 pub returns-clause-listed : goal.returns-clause-listed
 returns-clause-listed c = by_venue c.put.new.self
+
+pub returns-clause-venues : goal.returns-clause-venues
+returns-clause-venues c = clear_changes c.args.venue c.args.side _ c.args.self.now (market_in c.put.new.self) c.in_ok-side.ensures.ok.0 c.put.ensures
