@@ -1,5 +1,7 @@
 -- What outstanding answers, by the tally.
-use Rattle.std.proofs.Common.{◌≡◌, ℕ, ◌-◌, true, false, cond, leb, length, take, get_or, Some, None, Ok, Err, Option, Result, sym, refl, ap, ◌∙◌, subst, inl, inr, arith}
+use Rattle.std.proofs.Common.{◌≡◌, ℕ, ◌+◌, ◌-◌, ◌<◌, Bool, true, false, cond, leb, ltb, List, length, take, get_or, Some, None, Ok, Err, Option, Result, sym, refl, ap, ◌∙◌, subst, inl, inr, arith}
+use Rattle.std.specs.List.{prefix_len}
+use Rattle.std.proofs.lemmas.List.Sums.{prefix_len_passes}
 use Rattle.std.proofs.lemmas.Bool.{false≢true, and_parts, leb-true, cases_Bool}
 use Rattle.market.specs.Fits.{all_by}
 use Rattle.market.specs.Markets.{Market}
@@ -8,6 +10,7 @@ use Rattle.market.proofs.Asked.{all_yes}
 use Rattle.engine.specs.declared.call.Call.{Call}
 use Rattle.market.specs.declared.refusal.Refusal.{Refusal}
 use Rattle.market.specs.declared.refusal.Refusal.TheVariants.{TableSizes}
+use Rattle.routing.specs.declared.ticket.Ticket.{Ticket}
 use Rattle.routing.specs.Tickets.{empty_ticket}
 use Rattle.engine.specs.declared.state.Engine.{Engine}
 use Rattle.engine.specs.States.{Held, none_used, tickets_in}
@@ -31,17 +34,37 @@ tickets_kept e h y kept = elim (cases_Bool y.begun) [
   | inr f ↦ ap (λ u. take u.tickets h.tickets) (kept.fresh f).2 ∙ sym (ap (λ z. z.tickets) (kept.fresh f).1)
 ]
 
-pub open_by : (e : Engine) (h : Held) (y : Tally) → History e h y → (o : Option ℕ) → OpenTicket e h o → OpenBy y o
-open_by e h y run None open' = subst (λ ts. all_by (λ t. t.reported) ts ≡ true) (tickets_kept e h y (run_kept run)) open'
-open_by e h y run (Some n) open' =
-    let are = tickets_kept e h y (run_kept run) in
-    let is = and_parts (leb 1 n) (leb n (length (tickets_in e h))) open'.0 in (
-      leb-true 1 n is.0,
-      (omega (arith, leb-true n (length (tickets_in e h)) is.1, ap length are), sym (ap (λ ts. (get_or ts (n - 1) empty_ticket).reported) are) ∙ open'.1),
-    )
+first_is : (t : Bool) (k n : ℕ) → cond t (Some (k + 1)) None ≡ Some n → k + 1 ≡ n
+first_is true k n e = cc
+first_is false k n e = absurd (let z : ⊥ = cc in z)
 
-pub outstanding_by : (e : Engine) (h : Held) (y : Tally) → History e h y → (r : Result (Option ℕ) Refusal) → Outstanding e h r → (o : Option ℕ) → r ≡ Ok o → OpenBy y o
-outstanding_by e h y run r law o is = open_by e h y run o (subst (Outstanding e h) is law)
+answered_is : (t : Bool) (o p : Option ℕ) → cond t (Ok p) (Err TableSizes) ≡ Ok o → p ≡ o
+answered_is true o p e = cc
+answered_is false o p e = absurd (let z : ⊥ = cc in z)
+
+-- each ticket before the first that is not reported is reported
+reported_before : (ts : List Ticket) (n : ℕ) → first_open ts ≡ Some n → (i : ℕ) → i + 1 < n → (get_or ts i empty_ticket).reported ≡ true
+reported_before ts n e i l =
+    let k : ℕ = prefix_len (λ t. t.reported) ts in
+    let is : k + 1 ≡ n = first_is (ltb k (length ts)) k n e in
+    prefix_len_passes (λ t. t.reported) ts i empty_ticket (omega (arith, is, l))
+
+open_by : (e : Engine) (h : Held) (y : Tally) → History e h y → (o : Option ℕ) → first_open (tickets_in e h) ≡ o → OpenTicket e h o → OpenBy y o
+open_by e h y run None first open' = subst (λ ts. all_by (λ t. t.reported) ts ≡ true) (tickets_kept e h y (run_kept run)) open'
+open_by e h y run (Some n) first open' =
+    let are = tickets_kept e h y (run_kept run) in
+    let is = and_parts (leb 1 n) (leb n (length (tickets_in e h))) open'.0 in
+    record {
+      least = leb-true 1 n is.0;
+      most = omega (arith, leb-true n (length (tickets_in e h)) is.1, ap length are);
+      unreported = sym (ap (λ ts. (get_or ts (n - 1) empty_ticket).reported) are) ∙ open'.1;
+      before = λ i l. sym (ap (λ ts. (get_or ts i empty_ticket).reported) are) ∙ reported_before (tickets_in e h) n first i l;
+    }
+
+pub outstanding_by : (e : Engine) (h : Held) (y : Tally) → History e h y → (r : Result (Option ℕ) Refusal) → r ≡ outstanding_of e h → Outstanding e h r
+    → (o : Option ℕ) → r ≡ Ok o → OpenBy y o
+outstanding_by e h y run r law-of law o is =
+    open_by e h y run o (answered_is (sizes_fit h) o (first_open (tickets_in e h)) (sym law-of ∙ is)) (subst (Outstanding e h) is law)
 
 -- none of the rows of a table is in use
 none_open : (e : Engine) (h : Held) → e.used ≡ none_used → outstanding_of e h ≡ cond (sizes_fit h) (Ok None) (Err TableSizes)
@@ -77,4 +100,4 @@ pub open_now : (e : Engine) (h : Held) (y : Tally) → History e h y → y.begun
 open_now e h y run begun r is law =
     let o : Option ℕ = first_open (tickets_in e h) in
     let ok : r ≡ Ok o = is ∙ ap (λ t. cond t (Ok o) (Err TableSizes)) (run_sizes run begun) in
-    record { ticket = o; answered = ok; by_tally = outstanding_by e h y run r law o ok }
+    record { ticket = o; answered = ok; by_tally = outstanding_by e h y run r is law o ok }

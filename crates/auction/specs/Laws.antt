@@ -161,10 +161,17 @@ pub record Settled (t : Ticket) (filled : ℕ) (y y' : Tally) : Type 0 where
 abbrev pub Exhausted : ℕ → Tally → Type 0
 Exhausted price y = (executable_at Buy price (rest_levels y.buys) ≡ 0) ⊎ (executable_at Sell price (rest_levels y.sells) ≡ 0)
 
--- a number that is answered is that of a ticket that is not reported; where none is answered, all are
+-- a ticket with this number, counted from 1, is not reported, and each one before it is
+pub record FirstOpen (ts : List Ticket) (n : ℕ) : Type 0 where
+  pub least : 1 ≤ n
+  pub most : n ≤ length ts
+  pub unreported : (slice_index_or ts (n - 1) empty_ticket).reported ≡ false
+  pub before : (i : ℕ) → i + 1 < n → (slice_index_or ts i empty_ticket).reported ≡ true
+
+-- a number that is answered is that of the first ticket that is not reported; where none is answered, all are
 abbrev pub OpenBy : Tally → Option ℕ → Type 0
 OpenBy y None = all_by (λ t. t.reported) y.tickets ≡ true
-OpenBy y (Some n) = (1 ≤ n) × ((n ≤ length y.tickets) × ((slice_index_or y.tickets (n - 1) empty_ticket).reported ≡ false))
+OpenBy y (Some n) = FirstOpen y.tickets n
 
 -- a count of shares over all orders
 abbrev pub over_all : (OrderRow → ℕ) → Tally → ℕ

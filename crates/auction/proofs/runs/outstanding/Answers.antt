@@ -13,6 +13,6 @@ returns c =
       law = c.outstanding.ensures.law;
       numbers = c.outstanding.ensures.numbers;
       fresh = λ y history none. subst (λ r. NoneYet e h r) (sym c.outstanding.ensures.is) (none_yet e h y history none);
-      run = λ y history o is. outstanding_by e h y history c.outstanding.result c.outstanding.ensures.law o is;
+      run = λ y history o is. outstanding_by e h y history c.outstanding.result c.outstanding.ensures.is c.outstanding.ensures.law o is;
       begun = λ y history begun. open_now e h y history begun c.outstanding.result c.outstanding.ensures.is c.outstanding.ensures.law;
     }
