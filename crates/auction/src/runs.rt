@@ -19,8 +19,10 @@ use engine::tables::Tables;
 use market::refusal::Refusal;
 use market::source::QuoteSource;
 
-// Takes a call. Whatever calls came before it since the engine was made, granted or refused, it leaves what the rules
-// define, the laws of its kind of call hold between the tallies before and after it, and what always stands does so again.
+/// Takes a call. Whatever calls came before it since the engine was made, granted or refused, it leaves what the rules
+/// define, the laws of its kind of call hold between the tallies before and after it, and what always stands does so again.
+/// Times are milliseconds since midnight, prices points, and counts shares. `Err` is the refusal of the first question that is
+/// answered no, with its number from 1 to 23, and then engine and tables are as they stood.
 pub fn call<S: QuoteSource>(
     engine: &mut Engine,
     call: Call,
@@ -39,7 +41,8 @@ pub fn call<S: QuoteSource>(
     engine.call(call, source, tables)
 }
 
-// The number of the first ticket that is not yet reported, or none where all are; in a run, of the tally's tickets.
+/// The number, from 1, of the first ticket that is not yet reported, or none where all are; in a run, of the tally's tickets.
+/// `Err` is refusal 1: the tables have other sizes.
 pub fn outstanding(engine: &Engine, tables: &Tables<'_>) -> Result<Option<u32>, Refusal>
     ensures is { result ≡ outstanding_of engine.now (held tables.now) }
     ensures law { Outstanding engine.now (held tables.now) result }

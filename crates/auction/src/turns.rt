@@ -14,7 +14,7 @@ use engine::tables::Tables;
 use market::refusal::Refusal;
 use market::source::QuoteSource;
 
-// A call with the source that it is made on, and its answer once it is made.
+/// A call with the source that it is made on, and its answer once it is made.
 #[derive(Clone, Copy, Debug, PartialEq, Eq)]
 pub struct Turn<S> {
     pub call: Call,
@@ -22,8 +22,8 @@ pub struct Turn<S> {
     pub answer: Option<Result<Answer, Refusal>>,
 }
 
-// Makes the call of each turn, one after another, and writes its answer beside it. What a call by itself promises holds of
-// each of them, of any engine and tables, and in a run each is lawful: a caller that has many need not say it again.
+/// Makes the call of each turn, one after another, and writes its answer beside it. What a call by itself promises holds of
+/// each of them, of any engine and tables, and in a run each is lawful: a caller that has many need not say it again.
 pub fn call_all<S: QuoteSource>(engine: &mut Engine, turns: &mut [Turn<S>], tables: &mut Tables<'_>)
     ensures run { (y : Tally) → History engine.old (held tables.old) y → Played S.meaning engine.old (held tables.old) y turns.new engine.new (held tables.new) }
     ensures called { CalledRun S.meaning engine.old (held tables.old) turns.new engine.new (held tables.new) }

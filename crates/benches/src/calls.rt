@@ -21,7 +21,7 @@ use orders::order::Order;
 use orders::row::OrderRow;
 use routing::ticket::Ticket;
 
-// What a close answers, in numbers: the refusal, or 0 with the others.
+/// What a close answers, in numbers: the refusal, or 0 with the others.
 #[repr(C)]
 #[derive(Clone, Copy, Debug, Default, PartialEq, Eq)]
 pub struct Closed {
@@ -124,8 +124,8 @@ fn call_after(
     runs::call(&mut engine, call, venues, tables)
 }
 
-// C lends each table and each list by itself, so both exports take them one by one.
-// Takes orders, and then enters the next one; answers its refusal, or 0.
+/// C lends each table and each list by itself, so both exports take them one by one.
+/// Takes orders, and then enters the next one; answers its refusal, or 0.
 #[unsafe(no_mangle)]
 pub extern "C" fn bench_enter<'a>(
     buys: &'a mut [OrderRow],
@@ -152,7 +152,7 @@ pub extern "C" fn bench_enter<'a>(
     number_of(call_after(orders, &venues, call, &mut tables))
 }
 
-// Takes orders, and then closes the cycle.
+/// Takes orders, and then closes the cycle.
 #[unsafe(no_mangle)]
 pub extern "C" fn bench_close<'a>(
     buys: &'a mut [OrderRow],

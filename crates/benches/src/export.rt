@@ -12,7 +12,7 @@ use ranking::seat::seat;
 use routing::ticket::Ticket;
 use routing::tickets::write_tickets;
 
-// Puts one more entry among the first `used` rows, if a row is free, and says how many entries there are then.
+/// Puts one more entry among the first `used` rows, if a row is free, and says how many entries there are then.
 #[unsafe(no_mangle)]
 pub extern "C" fn insert_row(rows: &mut [Row], used: usize, row: &Row) -> usize
     ensures rows { rows.new ≡ (if nat_lt used (length rows.old) then placed row_ahead row.now (take used rows.old) ++ drop (used + 1) rows.old else rows.old) }
@@ -25,7 +25,7 @@ pub extern "C" fn insert_row(rows: &mut [Row], used: usize, row: &Row) -> usize
     }
 }
 
-// Writes the tickets of some orders and quotes.
+/// Writes the tickets of some orders and quotes.
 #[unsafe(no_mangle)]
 pub extern "C" fn bench_tickets(
     rows: &[OrderRow],

@@ -6,6 +6,7 @@ use market::rankings::HigherFirst;
 use ranking::rank::Ranking;
 use std::cmp::Reverse;
 
+/// A row of 44 bytes: the ten numbers of an order's row and a spare one.
 #[repr(C)]
 #[derive(Clone, Copy, Debug, PartialEq, Eq)]
 pub struct Row {

@@ -13,7 +13,7 @@ use market::side::Side;
 use orders::row::OrderRow;
 use pricing::level::executable;
 
-// No `BookView`: its quote rows may be empty, and an empty row would be a quote of price 0, which no best price may be.
+/// No `BookView`: its quote rows may be empty, and an empty row would be a quote of price 0, which no best price may be.
 #[derive(Clone, Copy, Debug, PartialEq, Eq)]
 pub struct Depth {
     pub buys: [OrderRow; ORDER_ROWS],
@@ -23,7 +23,7 @@ pub struct Depth {
 }
 
 impl Depth {
-    // The rows of a desk before its close, and the quotes that its tables have after it.
+    /// The rows of a desk before its close, and the quotes that its tables have after it.
     pub fn at_close(before: &Desk, after: &Desk) -> Depth
         ensures { book_of result ≡ book_from before.now.buys before.now.sells after.now.bids after.now.offers }
     {
@@ -46,21 +46,21 @@ impl Depth {
         executable(side, rows, price) + executable(side, quotes, price)
     }
 
-    // The shares of buys and bids at a price or higher.
+    /// The shares of buys and bids at a price or higher.
     pub fn demand(&self, price: u32) -> u64
         ensures { result ≡ demand_at (book_of self.now) price }
     {
         self.executable(Side::Buy, price)
     }
 
-    // The shares of sells and offers at a price or lower.
+    /// The shares of sells and offers at a price or lower.
     pub fn supply(&self, price: u32) -> u64
         ensures { result ≡ supply_at (book_of self.now) price }
     {
         self.executable(Side::Sell, price)
     }
 
-    // The shares that find both a buyer and a seller at a price, as of a book that can be viewed.
+    /// The shares that find both a buyer and a seller at a price, as of a book that can be viewed.
     pub fn count(&self, price: u32) -> u64
         ensures { result ≡ count_at (book_of self.now) price }
     {
@@ -68,7 +68,7 @@ impl Depth {
     }
 }
 
-// The price one step below a permitted one; 0 below the lowest.
+/// The price one step below a permitted one; 0 below the lowest.
 pub fn step_below(price: u32) -> u32
     ensures { result ≡ price - (if nat_le price dollar then fine_step else cent) }
 {
@@ -76,7 +76,7 @@ pub fn step_below(price: u32) -> u32
     price.saturating_sub(step)
 }
 
-// The price one step above a permitted one. At a dollar the step above is another than the step below.
+/// The price one step above a permitted one. At a dollar the step above is another than the step below.
 pub fn step_above(price: u32) -> u32
     ensures { price ≤ highest_price → result ≡ price + (if nat_lt price dollar then fine_step else cent) }
 {

@@ -27,6 +27,7 @@ use market::venues::VenueTable;
 use orders::row::OrderRow;
 use routing::ticket::Ticket;
 
+/// An engine with its venue table and its five tables of rows.
 #[derive(Clone, Copy, Debug, PartialEq, Eq)]
 pub struct Desk {
     pub engine: Engine,
@@ -39,7 +40,7 @@ pub struct Desk {
 }
 
 impl Desk {
-    // An engine just made, empty tables, and no venue that quotes.
+    /// An engine just made, empty tables, and no venue that quotes.
     pub fn new() -> Desk
         ensures engine { result.engine ≡ made Ordinary }
         ensures market { market_of result ≡ record { bids = []; offers = []; halted = false } }
@@ -57,8 +58,8 @@ impl Desk {
         }
     }
 
-    // Makes a call of the engine on the venues and the tables of the desk. The tables are made here and below: they lie beside
-    // the engine and the venues, which a method that lent them would borrow too.
+    /// Makes a call of the engine on the venues and the tables of the desk. The tables are made here and below: they lie beside
+    /// the engine and the venues, which a method that lent them would borrow too.
     pub fn call(&mut self, asked: Call) -> Result<Answer, Refusal>
         ensures called { Called self.old.engine (market_of self.old) (rows_of self.old) asked (left_at self.new result) }
         ensures refused { Untouched self.old.engine (rows_of self.old) (left_at self.new result) }
@@ -79,7 +80,7 @@ impl Desk {
         call(&mut self.engine, asked, &self.venues, &mut tables)
     }
 
-    // The number of the first ticket that is not yet reported, or none where all are.
+    /// The number of the first ticket that is not yet reported, or none where all are.
     pub fn outstanding(&mut self) -> Result<Option<u32>, Refusal>
         ensures is { result ≡ outstanding_of self.old.engine (rows_of self.old) }
         ensures law { Outstanding self.old.engine (rows_of self.old) result }

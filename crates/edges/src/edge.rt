@@ -6,14 +6,14 @@ use engine::call::Call;
 use market::refusal::Refusal;
 use std::io;
 
-// The line that heads the edges of a refusal.
+/// The line that heads the edges of a refusal.
 pub fn head(rt: &HostRuntime, refusal: Refusal) -> io::Result<()> {
     let number = u32::from(refusal);
     println!(rt; "")?;
     println!(rt; "{number}: {refusal}")
 }
 
-// What came of a call, and where it was refused, whether what it was made on is the same.
+/// What came of a call, and where it was refused, whether what it was made on is the same.
 pub fn print_edge(
     rt: &HostRuntime,
     what: &str,
@@ -37,14 +37,14 @@ pub fn print_edge(
     }
 }
 
-// Makes a call on a copy of a desk.
+/// Makes a call on a copy of a desk.
 pub fn edge(rt: &HostRuntime, desk: &Desk, what: &str, call: Call) -> io::Result<()> {
     let mut copy = *desk;
     let answer = copy.call(call);
     print_edge(rt, what, answer, copy == *desk)
 }
 
-// Makes a call that a story needs, and says what came of it.
+/// Makes a call that a story needs, and says what came of it.
 pub fn tell(rt: &HostRuntime, desk: &mut Desk, what: &str, call: Call) -> io::Result<()> {
     let outcome = Outcome(desk.call(call));
     println!(rt; "  {what}: {outcome}")

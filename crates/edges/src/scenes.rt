@@ -7,7 +7,7 @@ use engine::state::Engine;
 use market::side::Side;
 use orders::order::{Class, Order};
 
-// When the cycle begins, when it may be closed, and the deadline of its ticket.
+/// When the cycle begins, when it may be closed, and the deadline of its ticket.
 pub const BEGIN: u32 = 40_000_000;
 
 pub const CLOSE: u32 = BEGIN + 500;
@@ -31,7 +31,7 @@ pub fn order(number: u32, side: Side, price: u32, shares: u32) -> Order {
     }
 }
 
-// The orders of the ninth worked book.
+/// The orders of the ninth worked book.
 pub fn buy() -> Order {
     order(1, Side::Buy, 200_400, 300)
 }
@@ -55,7 +55,7 @@ pub fn close() -> Call {
     }
 }
 
-// An open desk for an issue, with a bid and an offer of venue 1.
+/// An open desk for an issue, with a bid and an offer of venue 1.
 pub fn quoted(issue: Issue, bid: u32, offer: u32) -> Desk {
     let mut desk = Desk::new();
     desk.engine = Engine::new(issue);
@@ -64,12 +64,12 @@ pub fn quoted(issue: Issue, bid: u32, offer: u32) -> Desk {
     desk
 }
 
-// The quotes of the ninth worked book, in a special issue, so that its orders have the minimum size.
+/// The quotes of the ninth worked book, in a special issue, so that its orders have the minimum size.
 pub fn open() -> Desk {
     quoted(Issue::Special, 199_600, 200_000)
 }
 
-// In acceptance, with a buy and a sell.
+/// In acceptance, with a buy and a sell.
 pub fn accepting() -> Desk {
     let mut desk = open();
     let _ = desk.call(begin(buy()));
@@ -77,14 +77,14 @@ pub fn accepting() -> Desk {
     desk
 }
 
-// In satisfaction: 150 shares of the buy are sent to venue 1 by a ticket.
+/// In satisfaction: 150 shares of the buy are sent to venue 1 by a ticket.
 pub fn satisfying() -> Desk {
     let mut desk = accepting();
     let _ = desk.call(close());
     desk
 }
 
-// Matched at the deadline, the ticket not reported.
+/// Matched at the deadline, the ticket not reported.
 pub fn matched() -> Desk {
     let mut desk = satisfying();
     let _ = desk.call(Call::Match { time: DEADLINE });

@@ -117,6 +117,7 @@ impl Mixed for Engine {
     }
 }
 
+/// One number of 64 bits that mixes the stage, the numbers of rows in use and every row of a desk.
 pub fn digest_of(desk: &Desk) -> u64
     ensures { result ≡ mixed BASIS (desk_numbers desk.now) }
 {

@@ -6,7 +6,7 @@ use std::num::ParseIntError;
 use std::str::{FromStr, Split};
 use thiserror::Error;
 
-// A text that is no line of the input.
+/// A text that is no line of the input.
 #[derive(Clone, Copy, Debug, PartialEq, Eq, Error)]
 #[error("play_calls: a line is none that it reads")]
 pub struct NoLine;
@@ -17,7 +17,7 @@ impl From<ParseIntError> for NoLine {
     }
 }
 
-// What a line asks for. A venue and a side may be any numbers: the venue table refuses those that are none.
+/// What a line asks for. A venue and a side may be any numbers: the venue table refuses those that are none.
 #[derive(Clone, Copy, Debug, PartialEq, Eq)]
 pub enum Turn {
     Quote {

@@ -6,6 +6,7 @@ use engine::answer::{Answer, Closing, Numbers};
 use engine::outstanding::OutstandingNumbers;
 use std::fmt;
 
+/// What a line that is not refused is answered.
 #[derive(Clone, Copy, Debug, PartialEq, Eq)]
 pub enum Reply {
     Done,

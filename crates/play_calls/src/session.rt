@@ -9,7 +9,7 @@ use crate::reply::Reply;
 use desk::desk::Desk;
 use market::refusal::Refusal;
 
-// Whatever lines were played, the desk's run is a history: each call among them was lawful.
+/// Whatever lines were played, the desk's run is a history: each call among them was lawful.
 #[derive(Drop)]
 pub struct Session {
     pub desk: Desk,
@@ -17,11 +17,12 @@ pub struct Session {
 }
 
 impl Session {
+    /// A desk at its start: a just made engine for an ordinary issue, empty tables, and no quotes.
     pub fn new() -> Session {
         Session { desk: Desk::new() }
     }
 
-    // Does what a line says.
+    /// Does what a line says.
     pub fn play(&mut self, turn: Turn) -> Result<Reply, Refusal>
         ensures played { Played self.old.desk turn self.new.desk result }
         ensures goes_on { GoesOn self.old.desk turn self.new.desk result }

@@ -25,7 +25,7 @@ fn print_best(rt: &HostRuntime, desk: &Desk, side: Side, name: &str) -> io::Resu
     }
 }
 
-// The venues quote.
+/// The venues quote.
 pub fn quote(rt: &HostRuntime, desk: &mut Desk) -> io::Result<()> {
     println!(rt; "What the venues quote")?;
     for quoted in quotes() {
@@ -56,7 +56,7 @@ fn play(rt: &HostRuntime, desk: &mut Desk, call: Call) -> io::Result<()> {
     println!(rt; "  {call}: {outcome}")
 }
 
-// The start order opens the acceptance; with too few shares it does not.
+/// The start order opens the acceptance; with too few shares it does not.
 pub fn begin(rt: &HostRuntime, desk: &mut Desk) -> io::Result<()> {
     println!(rt; "")?;
     println!(rt; "The start")?;
@@ -71,7 +71,7 @@ pub fn begin(rt: &HostRuntime, desk: &mut Desk) -> io::Result<()> {
     Ok(())
 }
 
-// Members enter orders.
+/// Members enter orders.
 pub fn enter(rt: &HostRuntime, desk: &mut Desk) -> io::Result<()> {
     println!(rt; "")?;
     println!(rt; "The acceptance")?;
@@ -81,7 +81,7 @@ pub fn enter(rt: &HostRuntime, desk: &mut Desk) -> io::Result<()> {
     Ok(())
 }
 
-// A member cancels; the desk is too early to close, and to finish.
+/// A member cancels; the desk is too early to close, and to finish.
 pub fn cancel(rt: &HostRuntime, desk: &mut Desk) -> io::Result<()> {
     play(rt, desk, Call::Cancel { number: UNKNOWN })?;
     play(rt, desk, Call::Cancel { number: CANCELLED })?;
@@ -93,7 +93,7 @@ pub fn cancel(rt: &HostRuntime, desk: &mut Desk) -> io::Result<()> {
     play(rt, desk, Call::Finish { time: EARLY_CLOSE })
 }
 
-// The close fixes the price.
+/// The close fixes the price.
 pub fn close(rt: &HostRuntime, desk: &mut Desk) -> io::Result<()> {
     println!(rt; "")?;
     println!(rt; "The close")?;
@@ -113,7 +113,7 @@ pub fn close(rt: &HostRuntime, desk: &mut Desk) -> io::Result<()> {
     Ok(())
 }
 
-// Tickets are reported, and the sides are matched at the deadline.
+/// Tickets are reported, and the sides are matched at the deadline.
 pub fn satisfy(rt: &HostRuntime, desk: &mut Desk) -> io::Result<()> {
     println!(rt; "")?;
     let deadline = Clock(MATCH);
@@ -127,7 +127,7 @@ pub fn satisfy(rt: &HostRuntime, desk: &mut Desk) -> io::Result<()> {
     play(rt, desk, Call::Match { time: MATCH })
 }
 
-// A report that comes late, and the end.
+/// A report that comes late, and the end.
 pub fn finish(rt: &HostRuntime, desk: &mut Desk) -> io::Result<()> {
     println!(rt; "")?;
     println!(rt; "After the match")?;

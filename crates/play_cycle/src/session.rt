@@ -4,7 +4,7 @@ use engine::limits::TICKET_TIME;
 use market::side::Side;
 use orders::order::{Class, Order};
 
-// Times of the day, in milliseconds since midnight.
+/// Times of the day, in milliseconds since midnight.
 pub const BEGIN: u32 = 36_900_000;
 
 pub const EARLY_CLOSE: u32 = 36_900_400;
@@ -13,12 +13,12 @@ pub const CLOSE: u32 = 36_900_500;
 
 pub const EARLY_MATCH: u32 = 36_900_620;
 
-// The deadline of tickets: the match may come without them.
+/// The deadline of tickets: the match may come without them.
 pub const MATCH: u32 = CLOSE + TICKET_TIME;
 
 pub const FINISH: u32 = 36_900_950;
 
-// The last eligible sale before the close.
+/// The last eligible sale before the close.
 pub const LAST_SALE: u32 = 1_040_300;
 
 pub const FACTS: Facts = Facts {
@@ -28,7 +28,7 @@ pub const FACTS: Facts = Facts {
     acceptance: 500,
 };
 
-// A quote of a venue.
+/// A quote of a venue.
 #[derive(Clone, Copy, Debug, PartialEq, Eq)]
 pub struct Quoted {
     pub venue: u32,
@@ -46,7 +46,7 @@ fn quote(venue: u32, side: Side, price: u32, shares: u32) -> Quoted {
     }
 }
 
-// What the venues quote.
+/// What the venues quote.
 pub fn quotes() -> [Quoted; 8] {
     [
         quote(2, Side::Buy, 1_039_600, 1_000),
@@ -75,12 +75,12 @@ fn start_with(shares: u32) -> Order {
     order(101, Side::Buy, Class::Displayed, 1_040_600, shares)
 }
 
-// The start order with too few shares, and as it is granted.
+/// The start order with too few shares, and as it is granted.
 pub fn starts() -> [Order; 2] {
     [start_with(9_000), start_with(12_000)]
 }
 
-// The orders of the acceptance, as they come. The last has the number of another.
+/// The orders of the acceptance, as they come. The last has the number of another.
 pub fn entries() -> [Order; 13] {
     [
         order(102, Side::Buy, Class::Hidden, 1_041_200, 1_000),
@@ -99,12 +99,12 @@ pub fn entries() -> [Order; 13] {
     ]
 }
 
-// The order that its member cancels, and a number that no order has.
+/// The order that its member cancels, and a number that no order has.
 pub const CANCELLED: u32 = 107;
 
 pub const UNKNOWN: u32 = 999;
 
-// What the venues report of tickets. The first is more than the ticket has.
+/// What the venues report of tickets. The first is more than the ticket has.
 pub const REPORTS: [Call; 3] = [
     Call::Report {
         ticket: 1,
@@ -120,7 +120,7 @@ pub const REPORTS: [Call; 3] = [
     },
 ];
 
-// What is reported after the match. The fourth ticket is never reported.
+/// What is reported after the match. The fourth ticket is never reported.
 pub const LATE_REPORT: Call = Call::Report {
     ticket: 3,
     filled: 600,

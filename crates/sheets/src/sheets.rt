@@ -28,7 +28,7 @@ fn print_rows(rt: &HostRuntime, rows: &[OrderRow], side: &str) -> io::Result<()>
     Ok(())
 }
 
-// Both sides in rank order: by price, then by class, then by number.
+/// Both sides in rank order: by price, then by class, then by number.
 pub fn print_book(rt: &HostRuntime, desk: &Desk, when: &str) -> io::Result<()> {
     println!(rt; "")?;
     println!(rt; "The book as ranked, {when}")?;
@@ -37,6 +37,7 @@ pub fn print_book(rt: &HostRuntime, desk: &Desk, when: &str) -> io::Result<()> {
     print_rows(rt, &desk.sells, "sell")
 }
 
+/// Prints the tickets of a desk.
 pub fn print_tickets(rt: &HostRuntime, desk: &Desk, when: &str) -> io::Result<()> {
     println!(rt; "")?;
     println!(rt; "The tickets, {when}")?;
@@ -53,7 +54,7 @@ pub fn print_tickets(rt: &HostRuntime, desk: &Desk, when: &str) -> io::Result<()
     Ok(())
 }
 
-// Whether a ticket is still out, and which one first.
+/// Whether a ticket is still out, and which one first.
 pub fn print_outstanding(rt: &HostRuntime, desk: &mut Desk) -> io::Result<()>
     ensures { desk.new ≡ desk.old }
 {
@@ -66,7 +67,7 @@ pub fn print_outstanding(rt: &HostRuntime, desk: &mut Desk) -> io::Result<()>
     }
 }
 
-// Demand, supply and count at the price, and at two steps below and above it.
+/// Demand, supply and count at the price, and at two steps below and above it.
 pub fn print_depth(rt: &HostRuntime, depth: &Depth, price: u32) -> io::Result<()> {
     println!(rt; "")?;
     println!(rt; "Around the price     demand        supply         count")?;
@@ -93,7 +94,7 @@ fn print_traders(rt: &HostRuntime, rows: &[OrderRow], did: &str) -> io::Result<(
     Ok(())
 }
 
-// Who traded here, and who on other venues by tickets.
+/// Who traded here, and who on other venues by tickets.
 pub fn print_trades(rt: &HostRuntime, desk: &Desk) -> io::Result<()> {
     println!(rt; "")?;
     println!(rt; "Who traded")?;
@@ -126,7 +127,7 @@ fn print_counts(rt: &HostRuntime, rows: &[OrderRow], side: &str) -> io::Result<(
     Ok(())
 }
 
-// Every order, with where its shares went.
+/// Every order, with where its shares went.
 pub fn print_orders(rt: &HostRuntime, desk: &Desk) -> io::Result<()> {
     println!(rt; "")?;
     println!(rt; "Every order")?;
@@ -137,6 +138,7 @@ pub fn print_orders(rt: &HostRuntime, desk: &Desk) -> io::Result<()> {
     print_counts(rt, &desk.sells, "sell")
 }
 
+/// Prints what surveillance checks of a desk.
 pub fn print_checks(rt: &HostRuntime, desk: &Desk) -> io::Result<()> {
     let bought = executed_here(&desk.buys);
     let sold = executed_here(&desk.sells);
