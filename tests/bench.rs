@@ -3,10 +3,12 @@
 
 mod image;
 mod library;
+mod limits;
 mod pricing;
 mod random;
 
 use image::{Book, Entry, LAST_RUNG, STEP_RUNG, price_on};
+use limits::{MOST_ENTRIES, OUTPUT_LEN};
 use random::Random;
 use std::hint::black_box;
 use std::process::ExitCode;
@@ -28,13 +30,13 @@ struct Family {
     middle: u32,
 }
 
-/// The rung of the price 200,000.
+/// The rung of ten dollars.
 const MIDDLE: u32 = STEP_RUNG + 900;
 
 const LEVELS: [u32; 5] = [MIDDLE - 10, MIDDLE - 3, MIDDLE, MIDDLE + 1, MIDDLE + 7];
 
 const FAMILIES: [Family; 4] = [
-    // From 196,000 to 204,000.
+    // Up to twenty cents from ten dollars.
     Family {
         name: "dense",
         rung: |random| random.between(MIDDLE - 20, MIDDLE + 20),
@@ -46,7 +48,7 @@ const FAMILIES: [Family; 4] = [
         rung: |random| random.between(1, LAST_RUNG),
         middle: LAST_RUNG / 2,
     },
-    // On both sides of 20,000, where the ticks change.
+    // On both sides of a dollar, where the ticks change.
     Family {
         name: "penny",
         rung: |random| random.between(STEP_RUNG - 200, STEP_RUNG + 200),
@@ -66,10 +68,13 @@ struct Ready {
     last_sale: u32,
 }
 
-type Output = [u8; pricing::OUTPUT_LEN];
+type Output = [u8; OUTPUT_LEN];
 
 fn main() -> ExitCode {
-    println!("full books (512 buys, 512 sells, 32 bids, 32 offers), median ns per book");
+    let [buys, sells, bids, offers] = MOST_ENTRIES;
+    println!(
+        "full books ({buys} buys, {sells} sells, {bids} bids, {offers} offers), median ns per book"
+    );
     println!(
         "{:<8}{:>10}{:>14}{:>8}{:>9}",
         "family", "library", "independent", "ratio", "rounds"
@@ -123,13 +128,13 @@ fn time_round(books: &[Ready], price: impl Fn(&Ready) -> Option<Output>) -> f64 
 }
 
 fn library(book: &Ready) -> Option<Output> {
-    let mut out = [0; pricing::OUTPUT_LEN];
+    let mut out = [0; OUTPUT_LEN];
     let refusal = library::price_image(&book.image, book.last_sale, &mut out);
     (refusal == 0).then_some(out)
 }
 
 fn independent(book: &Ready) -> Option<Output> {
-    pricing::price(&book.image, book.last_sale, pricing::OUTPUT_LEN).ok()
+    pricing::price(&book.image, book.last_sale, OUTPUT_LEN).ok()
 }
 
 /// Whether both price the book, to the same bytes.
@@ -146,11 +151,12 @@ fn median(mut times: Vec<f64>) -> f64 {
 /// Draws a full book of the family, with quotes that do not cross.
 fn ready(family: &Family, seed: &[u64]) -> Ready {
     let mut random = Random::new(seed);
+    let [buys, sells, bids, offers] = MOST_ENTRIES;
     let book = Book {
-        buys: entries(512, &mut random, family, |_| true),
-        sells: entries(512, &mut random, family, |_| true),
-        bids: entries(32, &mut random, family, |rung| rung < family.middle),
-        offers: entries(32, &mut random, family, |rung| rung >= family.middle),
+        buys: entries(buys, &mut random, family, |_| true),
+        sells: entries(sells, &mut random, family, |_| true),
+        bids: entries(bids, &mut random, family, |rung| rung < family.middle),
+        offers: entries(offers, &mut random, family, |rung| rung >= family.middle),
     };
     let last_sale = price_on((family.rung)(&mut random));
     Ready {
@@ -161,7 +167,7 @@ fn ready(family: &Family, seed: &[u64]) -> Ready {
 
 /// Draws entries on rungs that pass.
 fn entries(
-    size: usize,
+    size: u32,
     random: &mut Random,
     family: &Family,
     passes: impl Fn(u32) -> bool,
@@ -173,6 +179,6 @@ fn entries(
             price: price_on(rung),
             shares,
         })
-        .take(size)
+        .take(size as usize)
         .collect()
 }

@@ -2,6 +2,9 @@
 
 use crate::damaged;
 use crate::image::{Book, Entry, LAST_RUNG, STEP_RUNG, price_on};
+use crate::limits::{
+    CENT, DOLLAR, HIGHEST_PRICE, MOST_ENTRIES, MOST_QUOTES, MOST_SHARES, OUTPUT_LEN,
+};
 use crate::random::Random;
 
 /// One call: a book, the last sale and the length of the output.
@@ -16,7 +19,7 @@ impl Call {
         Call {
             image: book.image(),
             last_sale,
-            out_len: 16,
+            out_len: OUTPUT_LEN,
         }
     }
 }
@@ -43,7 +46,7 @@ pub const KINDS: &[Kind] = &[
     kind("dense", dense),
     kind("sparse", sparse),
     kind("full", full),
-    kind("around 20,000", around_step),
+    kind("around a dollar", around_step),
     kind("both ends", both_ends),
     kind("odd reference", odd_reference),
     kind("middle of quotes", middle_of_quotes),
@@ -53,7 +56,7 @@ pub const KINDS: &[Kind] = &[
     kind("last sale too high", damaged::last_sale_too_high),
     kind("image too short", damaged::too_short),
     kind("image too long", damaged::too_long),
-    kind("image under 16 bytes", damaged::under_16_bytes),
+    kind("image ends in its sizes", damaged::ends_in_sizes),
     kind("sizes past limits", damaged::sizes_past_limits),
     kind("sizes against length", damaged::sizes_against_length),
     kind("sizes huge", damaged::sizes_huge),
@@ -65,8 +68,6 @@ pub const KINDS: &[Kind] = &[
     kind("flipped bits", damaged::flipped_bits),
     kind("output of wrong length", damaged::wrong_output),
 ];
-
-const HIGHEST_PRICE: u32 = price_on(LAST_RUNG);
 
 /// The rungs prices are drawn from, both ends included.
 #[derive(Clone, Copy)]
@@ -110,7 +111,13 @@ pub struct Drawing<'a> {
 
 impl<'a> Drawing<'a> {
     pub fn new(random: &'a mut Random) -> Self {
-        let lots = [(1, 3), (1, 1_000_000), (100, 1), (100, 10), (1_000_000, 1)];
+        let lots = [
+            (1, 3),
+            (1, MOST_SHARES),
+            (100, 1),
+            (100, 10),
+            (MOST_SHARES, 1),
+        ];
         let (lot, most_lots) = random.pick(&lots);
         Drawing {
             random,
@@ -243,7 +250,7 @@ fn one_sided(random: &mut Random) -> Call {
 fn quotes_only(random: &mut Random) -> Call {
     let rungs = Rungs::any(random);
     let mut drawing = Drawing::new(random);
-    let book = drawing.small_book(0, 32, rungs);
+    let book = drawing.small_book(0, MOST_QUOTES, rungs);
     Call::new(&book, drawing.last_sale(rungs))
 }
 
@@ -368,7 +375,7 @@ fn dense(random: &mut Random) -> Call {
     let rungs = Rungs::around(random.pick(&[500, 9_990, STEP_RUNG, 10_900, 1_000_000]), 20);
     let mut drawing = Drawing::new(random);
     let orders = drawing.random.between(50, 200);
-    let book = drawing.book([orders, orders, 16, 16], rungs);
+    let book = drawing.book([orders, orders, MOST_QUOTES / 2, MOST_QUOTES / 2], rungs);
     Call::new(&book, drawing.last_sale(rungs))
 }
 
@@ -384,7 +391,7 @@ fn sparse(random: &mut Random) -> Call {
 fn full(random: &mut Random) -> Call {
     let rungs = Rungs::any(random);
     let mut drawing = Drawing::new(random);
-    let book = drawing.book([512, 512, 32, 32], rungs);
+    let book = drawing.book(MOST_ENTRIES, rungs);
     Call::new(&book, drawing.last_sale(rungs))
 }
 
@@ -399,7 +406,16 @@ fn around_step(random: &mut Random) -> Call {
     }
     let last_sale = drawing.last_sale(rungs);
     let choices = [
-        last_sale, 0, 19_997, 19_998, 19_999, 20_000, 20_001, 20_099, 20_100, 20_101,
+        last_sale,
+        0,
+        DOLLAR - 3,
+        DOLLAR - 2,
+        DOLLAR - 1,
+        DOLLAR,
+        DOLLAR + 1,
+        DOLLAR + CENT / 2 - 1,
+        DOLLAR + CENT / 2,
+        DOLLAR + CENT / 2 + 1,
     ];
     Call::new(&book, drawing.random.pick(&choices))
 }
@@ -443,7 +459,7 @@ fn both_ends(random: &mut Random) -> Call {
         middle,
         HIGHEST_PRICE,
         HIGHEST_PRICE - 1,
-        HIGHEST_PRICE - 100,
+        HIGHEST_PRICE - CENT / 2,
     ];
     Call::new(&book, drawing.random.pick(&choices))
 }
@@ -457,7 +473,16 @@ fn odd_reference(random: &mut Random) -> Call {
     let mut drawing = Drawing::new(random);
     let book = drawing.run_of_candidates(rungs);
     let base = price_on(drawing.rung(rungs));
-    let offset = drawing.random.pick(&[1, 3, 50, 99, 100, 101, 150, 199]);
+    let offset = drawing.random.pick(&[
+        1,
+        3,
+        50,
+        CENT / 2 - 1,
+        CENT / 2,
+        CENT / 2 + 1,
+        150,
+        CENT - 1,
+    ]);
     let choices = [base + offset, base - offset, drawing.half_a_tick_off(rungs)];
     Call::new(&book, drawing.random.pick(&choices).min(HIGHEST_PRICE))
 }

@@ -5,12 +5,14 @@ mod books;
 mod damaged;
 mod image;
 mod library;
+mod limits;
 mod pricing;
 mod random;
 mod tally;
 mod worked;
 
 use books::{Call, KINDS};
+use limits::{CAUSE_BYTES, COUNT_BYTES, OUTPUT_LEN, PRICE_BYTES, WORD_LEN};
 use random::Random;
 use std::process::ExitCode;
 use tally::Tally;
@@ -82,12 +84,12 @@ pub enum Answer {
 }
 
 impl Answer {
-    fn new(result: Result<[u8; 16], u32>) -> Self {
+    fn new(result: Result<[u8; OUTPUT_LEN], u32>) -> Self {
         match result {
             Ok(out) => Answer::Outcome {
-                price: u32::from_le_bytes(out[..4].try_into().unwrap()),
-                cause: u32::from_le_bytes(out[4..8].try_into().unwrap()),
-                count: u64::from_le_bytes(out[8..].try_into().unwrap()),
+                price: u32::from_le_bytes(out[PRICE_BYTES].try_into().unwrap()),
+                cause: u32::from_le_bytes(out[CAUSE_BYTES].try_into().unwrap()),
+                count: u64::from_le_bytes(out[COUNT_BYTES].try_into().unwrap()),
             },
             Err(refusal) => Answer::Refusal(refusal),
         }
@@ -147,7 +149,7 @@ impl Framed {
 /// A message with all that is needed to see the difference.
 fn difference(
     call: &Call,
-    expected: Result<[u8; 16], u32>,
+    expected: Result<[u8; OUTPUT_LEN], u32>,
     returned: u32,
     out: &mut Framed,
     expected_out: &mut Framed,
@@ -162,7 +164,7 @@ fn difference(
         format!("library:  returned {returned}"),
         format!("          output {:02x?}", out.inner()),
     ];
-    if let (0, Ok(bytes)) = (returned, <[u8; 16]>::try_from(&*out.inner())) {
+    if let (0, Ok(bytes)) = (returned, <[u8; OUTPUT_LEN]>::try_from(&*out.inner())) {
         lines.push(format!("          {:?}", Answer::new(Ok(bytes))));
     }
     if out.inner() == expected_out.inner() && out != expected_out {
@@ -178,7 +180,7 @@ fn difference(
 
 /// The first numbers of the image.
 fn numbers(call: &Call) -> Vec<u32> {
-    let (words, _) = call.image.as_chunks::<4>();
+    let (words, _) = call.image.as_chunks::<WORD_LEN>();
     words
         .iter()
         .take(100)

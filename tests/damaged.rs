@@ -1,21 +1,20 @@
 //! Books with faults: images, entries, last sales and outputs to be refused.
 
 use crate::books::{Call, Drawing, Rungs};
-use crate::image::{Book, Entry};
+use crate::image::{Book, Entry, STEP_RUNG};
+use crate::limits::{
+    CENT, DOLLAR, ENTRY_LEN, FINE_TICK, HIGHEST_PRICE, KINDS_OF_ENTRIES, LOWEST_PRICE,
+    MOST_ENTRIES, MOST_SHARES, OUTPUT_LEN, SIZES_LEN, WORD_LEN,
+};
 use crate::random::Random;
 
 /// Fault-free prices for the books to be damaged.
 const RUNGS: Rungs = Rungs {
-    low: 9_950,
-    high: 10_950,
+    low: STEP_RUNG - 50,
+    high: STEP_RUNG + 950,
 };
 
-/// The most buys, sells, bids and offers.
-const LIMITS: [u32; 4] = [512, 512, 32, 32];
-
-/// Lengths of the parts of an image.
-const SIZES_LEN: usize = 16;
-const ENTRY_LEN: u32 = 8;
+const LAST_KIND: u32 = KINDS_OF_ENTRIES as u32 - 1;
 
 pub fn last_sale_too_high(random: &mut Random) -> Call {
     Call::new(&some_book(random), too_high(random))
@@ -25,7 +24,7 @@ pub fn last_sale_too_high(random: &mut Random) -> Call {
 pub fn too_short(random: &mut Random) -> Call {
     let mut call = sound(random);
     let len = call.image.len() as u32;
-    let most = random.pick(&[1, 4, ENTRY_LEN, len - SIZES_LEN as u32]);
+    let most = random.pick(&[1, WORD_LEN as u32, ENTRY_LEN as u32, len - SIZES_LEN as u32]);
     call.image
         .truncate((len - random.between(1, most)) as usize);
     call
@@ -35,12 +34,13 @@ pub fn too_short(random: &mut Random) -> Call {
 pub fn too_long(random: &mut Random) -> Call {
     let mut call = sound(random);
     let any = random.between(1, 40);
-    let more = random.pick(&[1, 4, ENTRY_LEN, any]);
+    let more = random.pick(&[1, WORD_LEN as u32, ENTRY_LEN as u32, any]);
     call.image.extend((0..more).map(|_| random.next() as u8));
     call
 }
 
-pub fn under_16_bytes(random: &mut Random) -> Call {
+/// The image ends before its sizes do.
+pub fn ends_in_sizes(random: &mut Random) -> Call {
     let mut call = if random.pick(&[true, false]) {
         sound(random)
     } else {
@@ -53,13 +53,13 @@ pub fn under_16_bytes(random: &mut Random) -> Call {
 
 /// Sound entries in an image of the right length, but too many of a kind.
 pub fn sizes_past_limits(random: &mut Random) -> Call {
-    let mut sizes = LIMITS.map(|limit| random.between(limit - 1, limit));
+    let mut sizes = MOST_ENTRIES.map(|limit| random.between(limit - 1, limit));
     if random.pick(&[true, false]) {
         sizes = sizes.map(|size| random.between(0, size));
     }
-    let side = random.between(0, 3) as usize;
+    let side = random.between(0, LAST_KIND) as usize;
     let past = random.between(1, 40);
-    sizes[side] = LIMITS[side] + random.pick(&[1, past]);
+    sizes[side] = MOST_ENTRIES[side] + random.pick(&[1, past]);
     let mut drawing = Drawing::new(random);
     let book = drawing.book(sizes, RUNGS);
     Call::new(&book, drawing.last_sale(RUNGS))
@@ -68,19 +68,24 @@ pub fn sizes_past_limits(random: &mut Random) -> Call {
 /// A size that the length of the image does not bear out.
 pub fn sizes_against_length(random: &mut Random) -> Call {
     let mut call = sound(random);
-    let side = random.between(0, 3) as usize;
+    let side = random.between(0, LAST_KIND) as usize;
     let size = size_of(&call.image, side);
-    let other = random.between(size + 1, 2 * LIMITS[side]);
-    let choices = [size + 1, LIMITS[side] + 1, other, size.wrapping_sub(1)];
+    let other = random.between(size + 1, 2 * MOST_ENTRIES[side]);
+    let choices = [
+        size + 1,
+        MOST_ENTRIES[side] + 1,
+        other,
+        size.wrapping_sub(1),
+    ];
     set_size(&mut call.image, side, random.pick(&choices));
     call
 }
 
-/// Sizes so large that a sum or a product in 32 bits comes round to the right length.
+/// Sizes so large that a sum or a product as wide as a size comes round to the right length.
 pub fn sizes_huge(random: &mut Random) -> Call {
     let mut call = sound(random);
-    let side = random.between(0, 3) as usize;
-    let other = (side + 1) % 4;
+    let side = random.between(0, LAST_KIND) as usize;
+    let other = (side + 1) % KINDS_OF_ENTRIES;
     let size = size_of(&call.image, side);
     match random.between(0, 3) {
         0 => set_size(&mut call.image, side, u32::MAX - size),
@@ -94,7 +99,7 @@ pub fn sizes_huge(random: &mut Random) -> Call {
             set_size(&mut call.image, side, size.wrapping_sub(moved));
             set_size(&mut call.image, other, grown);
         }
-        _ => (0..4).for_each(|side| {
+        _ => (0..KINDS_OF_ENTRIES).for_each(|side| {
             let size = u32::MAX - random.between(0, 1_000);
             set_size(&mut call.image, side, size);
         }),
@@ -218,32 +223,38 @@ fn spoiled<'a>(
 
 fn bad_price(random: &mut Random) -> u32 {
     let odd = random.between(0, u32::MAX) | 1;
-    let off_the_tick = 200 * random.between(100, 20_000_000) + random.between(1, 199);
-    let above = random.between(4_000_000_001, u32::MAX);
+    let off_the_tick =
+        CENT * random.between(DOLLAR / CENT, HIGHEST_PRICE / CENT) + random.between(1, CENT - 1);
+    let above = random.between(HIGHEST_PRICE + 1, u32::MAX);
     let edges = [
         0,
-        1,
-        3,
-        19_999,
-        20_001,
-        20_002,
-        20_100,
-        20_198,
-        3_999_999_998,
+        LOWEST_PRICE - 1,
+        LOWEST_PRICE + 1,
+        DOLLAR - 1,
+        DOLLAR + 1,
+        DOLLAR + FINE_TICK,
+        DOLLAR + CENT / 2,
+        DOLLAR + CENT - FINE_TICK,
+        HIGHEST_PRICE - FINE_TICK,
     ];
     let edge = random.pick(&edges);
-    let past = random.pick(&[4_000_000_001, 4_000_000_002, 4_000_000_200, u32::MAX - 95]);
+    let past = random.pick(&[
+        HIGHEST_PRICE + 1,
+        HIGHEST_PRICE + FINE_TICK,
+        HIGHEST_PRICE + CENT,
+        u32::MAX / CENT * CENT,
+    ]);
     random.pick(&[odd, off_the_tick, above, edge, past])
 }
 
 fn bad_shares(random: &mut Random) -> u32 {
-    let above = random.between(1_000_001, u32::MAX);
-    random.pick(&[0, 1_000_001, u32::MAX, 1 << 31, above])
+    let above = random.between(MOST_SHARES + 1, u32::MAX);
+    random.pick(&[0, MOST_SHARES + 1, u32::MAX, 1 << 31, above])
 }
 
 fn too_high(random: &mut Random) -> u32 {
-    let above = random.between(4_000_000_001, u32::MAX);
-    random.pick(&[4_000_000_001, 4_000_000_200, u32::MAX, above])
+    let above = random.between(HIGHEST_PRICE + 1, u32::MAX);
+    random.pick(&[HIGHEST_PRICE + 1, HIGHEST_PRICE + CENT, u32::MAX, above])
 }
 
 /// Makes the length or a size wrong.
@@ -252,22 +263,22 @@ fn spoil_length(image: &mut Vec<u8>, random: &mut Random) {
         0 => image.push(0),
         1 => image.truncate(random.between(0, image.len() as u32 - 1) as usize),
         _ => {
-            let side = random.between(0, 3) as usize;
-            set_size(image, side, LIMITS[side] + 1);
+            let side = random.between(0, LAST_KIND) as usize;
+            set_size(image, side, MOST_ENTRIES[side] + 1);
         }
     }
 }
 
-/// A length from 0 to 40, but not 16.
+/// A length that is not that of an output.
 fn wrong_length(random: &mut Random) -> usize {
-    let len = random.between(0, 39) as usize;
-    if len < 16 { len } else { len + 1 }
+    let len = random.between(0, 3 * OUTPUT_LEN as u32 - 1) as usize;
+    if len < OUTPUT_LEN { len } else { len + 1 }
 }
 
 fn size_of(image: &[u8], side: usize) -> u32 {
-    u32::from_le_bytes(image[4 * side..][..4].try_into().unwrap())
+    u32::from_le_bytes(image[WORD_LEN * side..][..WORD_LEN].try_into().unwrap())
 }
 
 fn set_size(image: &mut [u8], side: usize, size: u32) {
-    image[4 * side..][..4].copy_from_slice(&size.to_le_bytes());
+    image[WORD_LEN * side..][..WORD_LEN].copy_from_slice(&size.to_le_bytes());
 }

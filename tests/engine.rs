@@ -2,16 +2,16 @@
 //! found by trying every stretch between the prices of the book, and tickets are the overlaps of intervals. It shares
 //! no code with the engine that it is compared to.
 
+use crate::limits::{
+    CENT, CYCLE_GAP, DAY_END, DOLLAR, FINE_TICK, FIRST_START, HIGHEST_PRICE, LAST_START, LONGEST_ACCEPTANCE,
+    LOWEST_PRICE, MINIMUMS, MOST_QUOTES, MOST_SHARES, MOST_TICKETS, ORDER_ROWS, QUOTE_AGE, QUOTE_ROWS,
+    SHORTEST_ACCEPTANCE, SPECIAL_MINIMUM, TICKET_ROWS, TICKET_TIME, VENUES,
+};
 use std::cmp::Reverse;
 use std::collections::{BTreeMap, BTreeSet};
 
-pub const LOWEST: u32 = 2;
-pub const HIGHEST: u32 = 4_000_000_000;
-const DOLLAR: u32 = 20_000;
-const DAY_END: u32 = 86_399_999;
-const SIDE_ROWS: usize = 512;
-const QUOTE_ROWS: usize = 32;
-const TICKET_ROWS: usize = 544;
+// The quotes of a venue table fit, so no call here is refused because they do not (4).
+const _: () = assert!(VENUES <= MOST_QUOTES);
 
 #[derive(Clone, Copy, Debug)]
 pub struct Order {
@@ -112,6 +112,8 @@ pub struct Engine {
     pub stage: Stage,
     pub last_time: Option<u32>,
     pub last_end: Option<u32>,
+    /// The fixed price: that of the last match, none from a begin until its cycle's match. No call depends on it.
+    pub fixed: Option<u32>,
     used: Used,
     /// What the tables hold; a new engine finds them as they are.
     pub book: BTreeMap<u32, Held>,
@@ -122,14 +124,14 @@ pub struct Engine {
 
 pub fn is_permitted(price: u32) -> bool {
     match price {
-        LOWEST..DOLLAR => price % 2 == 0,
-        DOLLAR..=HIGHEST => price % 200 == 0,
+        LOWEST_PRICE..DOLLAR => price % FINE_TICK == 0,
+        DOLLAR..=HIGHEST_PRICE => price % CENT == 0,
         _ => false,
     }
 }
 
 fn fits(price: u32, shares: u32) -> bool {
-    is_permitted(price) && shares >= 1 && shares <= 1_000_000
+    is_permitted(price) && shares >= 1 && shares <= MOST_SHARES
 }
 
 fn is_well_formed(order: &Order) -> bool {
@@ -139,31 +141,26 @@ fn is_well_formed(order: &Order) -> bool {
 /// The minimum size of a start order.
 pub fn minimum(special: bool, price: u32) -> u32 {
     if special {
-        return 100;
+        return SPECIAL_MINIMUM;
     }
-    let steps = [
-        (10_000_000, 2_500),
-        (2_000_000, 5_000),
-        (1_000_000, 10_000),
-        (500_000, 20_000),
-        (100_000, 25_000),
-        (20_000, 50_000),
-    ];
-    steps.iter().find(|step| step.0 <= price).map_or(100_000, |step| step.1)
+    MINIMUMS.iter().rfind(|step| step.0 <= price).unwrap_or(&MINIMUMS[0]).1
+}
+
+/// The distance between permitted prices about a price.
+fn tick(price: u32) -> u32 {
+    if price < DOLLAR { FINE_TICK } else { CENT }
 }
 
 /// The permitted prices next to a price: the last at or below it, the first at or above it.
 fn permitted_down(price: u32) -> Option<u32> {
-    let step = if price < DOLLAR { 2 } else { 200 };
-    let down = price.min(HIGHEST) / step * step;
-    (down >= LOWEST).then_some(down)
+    let down = price.min(HIGHEST_PRICE) / tick(price) * tick(price);
+    (down >= LOWEST_PRICE).then_some(down)
 }
 
 fn permitted_up(price: u32) -> Option<u32> {
-    let price = u64::from(price.max(LOWEST));
-    let step = if price < u64::from(DOLLAR) { 2 } else { 200 };
-    let up = price.div_ceil(step) * step;
-    (up <= u64::from(HIGHEST)).then_some(up as u32)
+    let step = u64::from(tick(price));
+    let up = u64::from(price.max(LOWEST_PRICE)).div_ceil(step) * step;
+    (up <= u64::from(HIGHEST_PRICE)).then_some(up as u32)
 }
 
 /// A book as the count sees it: price and shares of buys, sells, bids and offers.
@@ -198,7 +195,7 @@ impl Book {
         let sides = [&self.buys, &self.sells, &self.bids, &self.offers];
         let prices: BTreeSet<u32> = sides.iter().flat_map(|side| side.iter().map(|entry| entry.0)).collect();
         let mut stretches = Vec::new();
-        let mut from = LOWEST;
+        let mut from = LOWEST_PRICE;
         for price in prices {
             if from < price {
                 stretches.push((from, price - 1));
@@ -206,8 +203,8 @@ impl Book {
             stretches.push((price, price));
             from = price + 1;
         }
-        if from <= HIGHEST {
-            stretches.push((from, HIGHEST));
+        if from <= HIGHEST_PRICE {
+            stretches.push((from, HIGHEST_PRICE));
         }
         // Nothing that is summed changes within a stretch, so one price speaks for it.
         let mut found = Vec::new();
@@ -280,6 +277,7 @@ impl Engine {
             stage: Stage::Open,
             last_time: None,
             last_end: None,
+            fixed: None,
             used: Used::default(),
             book: BTreeMap::new(),
             quotes: [Vec::new(), Vec::new()],
@@ -349,6 +347,7 @@ impl Engine {
                 self.stage = Stage::Open;
                 self.last_time = None;
                 self.last_end = None;
+                self.fixed = None;
                 self.used = Used::default();
                 Ok(Answer::Done)
             }
@@ -380,7 +379,7 @@ impl Engine {
     }
 
     fn ask_venue(&self, venue: u32, side: u32) -> Result<(), u32> {
-        ask((1..=32).contains(&venue) && (1..=2).contains(&side), 27)
+        ask((1..=VENUES).contains(&venue) && (1..=2).contains(&side), 27)
     }
 
     fn begin(&mut self, time: u32, order: Order, facts: Facts) -> Result<Answer, u32> {
@@ -397,19 +396,20 @@ impl Engine {
         ask(if order.side == 1 { order.price >= offer } else { order.price <= bid }, 10)?;
         let since = |then: u32| i64::from(time) - i64::from(then);
         ask(
-            (30_600_000..=53_699_999).contains(&time)
-                && facts.first_quote.is_some_and(|quote| since(quote) >= 300_000)
-                && self.last_end.is_none_or(|end| since(end) >= 60_000),
+            (FIRST_START..=LAST_START).contains(&time)
+                && facts.first_quote.is_some_and(|quote| since(quote) >= i64::from(QUOTE_AGE))
+                && self.last_end.is_none_or(|end| since(end) >= i64::from(CYCLE_GAP)),
             11,
         )?;
         ask(facts.routing, 12)?;
-        ask((475..=525).contains(&facts.acceptance), 13)?;
+        ask((SHORTEST_ACCEPTANCE..=LONGEST_ACCEPTANCE).contains(&facts.acceptance), 13)?;
         self.book.clear();
         self.quotes = [Vec::new(), Vec::new()];
         self.tickets.clear();
         self.used = Used::default();
         self.stage = Stage::Acceptance { closes: time + facts.acceptance };
         self.last_time = Some(time);
+        self.fixed = None;
         self.hold(order);
         Ok(Answer::Done)
     }
@@ -436,7 +436,7 @@ impl Engine {
         self.closes()?;
         ask(is_well_formed(&order), 7)?;
         ask(!self.book.contains_key(&order.number), 14)?;
-        ask(self.on_side(order.side).len() < SIDE_ROWS, 15)?;
+        ask(self.on_side(order.side).len() < ORDER_ROWS, 15)?;
         self.hold(order);
         Ok(Answer::Done)
     }
@@ -455,7 +455,7 @@ impl Engine {
         let closes = self.closes()?;
         ask(self.is_time(time), 3)?;
         ask(time >= closes, 18)?;
-        ask(last_sale <= HIGHEST, 19)?;
+        ask(last_sale <= HIGHEST_PRICE, 19)?;
         let book = self.book_now();
         match book.outcome(self.venues.halted, last_sale) {
             Err(4) => {
@@ -472,7 +472,7 @@ impl Engine {
             Ok((price, count)) => {
                 self.rank_quotes();
                 self.route(&book, price);
-                self.stage = Stage::Satisfaction { price, deadline: time + 200 };
+                self.stage = Stage::Satisfaction { price, deadline: time + TICKET_TIME };
                 self.last_time = Some(time);
                 Ok(Answer::Closed { cause: 0, price, count, tickets: self.tickets.len() })
             }
@@ -517,6 +517,7 @@ impl Engine {
         }
         let sent: u64 = tickets.iter().map(|ticket| u64::from(ticket.shares)).sum();
         assert_eq!(sent, routed, "all that is owed is ticketed");
+        assert!(tickets.len() <= MOST_TICKETS, "there are fewer tickets than orders and quotes together");
         for ticket in &tickets {
             let held = self.book.get_mut(&ticket.order).expect("a ticket's order is on the book");
             held.rest -= ticket.shares;
@@ -564,6 +565,7 @@ impl Engine {
         }
         self.stage = Stage::Matched;
         self.last_time = Some(time);
+        self.fixed = Some(price);
         Ok(Answer::Number(shares))
     }
 
@@ -596,31 +598,33 @@ impl Engine {
         stage.iter().for_each(|&number| mix(number.into()));
         let Used { buys, sells, bids, offers, tickets } = self.used;
         [buys, sells, bids, offers, tickets].iter().for_each(|&used| mix(used as u64));
-        let mut rows = |numbers: &mut dyn Iterator<Item = u32>, size: usize| {
-            let mut count = 0;
-            for number in numbers {
-                mix(number.into());
-                count += 1;
-            }
-            (count..size).for_each(|_| mix(0));
-        };
         for side in [1, 2] {
-            let mut numbers = self.ranked(side).into_iter().flat_map(|number| {
+            let rows = self.ranked(side).into_iter().map(|number| {
                 let Held { order, rest, here, away, out, cancelled, late } = self.book[&number];
                 let Order { class, price, shares, .. } = order;
                 [number, class, price, shares, rest, here, away, out, cancelled, late]
             });
-            rows(&mut numbers, 10 * SIDE_ROWS);
+            mix_table(&mut mix, rows, ORDER_ROWS);
         }
         for quotes in &self.quotes {
-            let mut numbers = quotes.iter().flat_map(|quote| [quote.price, quote.shares, quote.venue]);
-            rows(&mut numbers, 3 * QUOTE_ROWS);
+            let rows = quotes.iter().map(|quote| [quote.price, quote.shares, quote.venue]);
+            mix_table(&mut mix, rows, QUOTE_ROWS);
         }
-        let tickets = self.tickets.iter();
-        let mut numbers = tickets.flat_map(|t| [t.order, t.venue, t.price, t.shares, u32::from(t.reported)]);
-        rows(&mut numbers, 5 * TICKET_ROWS);
+        let rows = self.tickets.iter().map(|t| [t.order, t.venue, t.price, t.shares, u32::from(t.reported)]);
+        mix_table(&mut mix, rows, TICKET_ROWS);
         digest
     }
+}
+
+/// Mixes the fields of a table's rows, and zeros for the rows that are empty.
+fn mix_table<const FIELDS: usize>(
+    mix: &mut impl FnMut(u64),
+    rows: impl ExactSizeIterator<Item = [u32; FIELDS]>,
+    size: usize,
+) {
+    let empty = size - rows.len();
+    rows.flatten().for_each(|number| mix(number.into()));
+    (0..empty * FIELDS).for_each(|_| mix(0));
 }
 
 /// A question with the number that a "no" gives.

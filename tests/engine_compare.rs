@@ -3,6 +3,7 @@
 
 mod engine;
 mod engine_runs;
+mod limits;
 #[allow(dead_code)]
 mod random;
 

@@ -1,18 +1,28 @@
 //! Draws runs of calls: whole cycles in every stage, with calls that are refused, ties, halts, locked and crossed
 //! markets, full tables, and reports that come in time, late or never.
 
-use crate::engine::{Answer, Engine, Facts, HIGHEST, Line, Order, Stage, minimum};
+use crate::engine::{Answer, Engine, Facts, Line, Order, Stage, minimum};
+use crate::limits::{
+    CENT, CYCLE_GAP, DAY_END, DOLLAR, FINE_PRICES, FINE_TICK, FIRST_START, HIGHEST_PRICE, LAST_START,
+    LONGEST_ACCEPTANCE, LOWEST_PRICE, MOST_ORDERS, MOST_SHARES, PRICES, QUOTE_AGE, SHORTEST_ACCEPTANCE, TICKET_TIME,
+    VENUES,
+};
 use crate::random::Random;
 
-/// How many permitted prices there are, and how many of them are below a dollar.
-const PRICES: i64 = 20_009_900;
-const FINE_PRICES: i64 = 9_999;
+/// The rung of a dollar; rungs count the permitted prices from 1.
+const DOLLAR_RUNG: i64 = FINE_PRICES as i64 + 1;
+const LAST_RUNG: i64 = PRICES as i64;
 
-/// The permitted price with a number, from 1; numbers past the ends stand for the ends.
+/// The permitted price on a rung; rungs past the ends stand for the ends.
 fn price_at(rung: i64) -> u32 {
-    let rung = rung.clamp(1, PRICES);
-    if rung <= FINE_PRICES { 2 * rung as u32 } else { 20_000 + 200 * (rung - FINE_PRICES - 1) as u32 }
+    let rung = rung.clamp(1, LAST_RUNG);
+    if rung < DOLLAR_RUNG { FINE_TICK * rung as u32 } else { DOLLAR + CENT * (rung - DOLLAR_RUNG) as u32 }
 }
+
+const MIDDLE_ACCEPTANCE: u32 = SHORTEST_ACCEPTANCE.midpoint(LONGEST_ACCEPTANCE);
+
+/// More orders than both sides hold, so that they fill a side though some of them are refused.
+const FILLING: u32 = 2 * MOST_ORDERS + 3 * MOST_ORDERS / 4;
 
 /// A line with the answer and the digest that are expected.
 pub struct Played {
@@ -51,6 +61,7 @@ pub struct Run<'a> {
     style: Style,
     /// The highest rung of a bid, from the middle.
     edge: i64,
+    /// The time of the next call, in milliseconds since midnight.
     time: u32,
     played: Vec<Played>,
 }
@@ -59,7 +70,8 @@ pub struct Run<'a> {
 pub fn play_run(engine: &mut Engine, number: u64) -> Vec<Played> {
     let mut random = Random::new(&[7, number]);
     let style = draw_style(&mut random, number);
-    let time = random.between(30_000_000, 45_000_000);
+    // Early enough for all cycles of a run.
+    let time = random.between(FIRST_START - 10 * CYCLE_GAP, LAST_START - 100 * CYCLE_GAP);
     let edge = i64::from(random.between(0, 2 * style.width)) - i64::from(style.width);
     let mut run = Run { engine, random, style, edge, time, played: Vec::new() };
     run.play();
@@ -70,10 +82,10 @@ fn draw_style(random: &mut Random, number: u64) -> Style {
     let middle = match random.between(0, 9) {
         0 => i64::from(random.between(1, 8)),
         1 => i64::from(random.between(400, 1_500)),
-        2 | 3 => FINE_PRICES + i64::from(random.between(0, 20)) - 10,
-        4 => PRICES - i64::from(random.between(0, 6)),
-        5 => i64::from(random.between(1, PRICES as u32)),
-        _ => FINE_PRICES + 900 + i64::from(random.between(0, 40)),
+        2 | 3 => DOLLAR_RUNG + i64::from(random.between(0, 20)) - 11,
+        4 => LAST_RUNG - i64::from(random.between(0, 6)),
+        5 => i64::from(random.between(1, PRICES)),
+        _ => DOLLAR_RUNG + 899 + i64::from(random.between(0, 40)),
     };
     let mut style = Style {
         middle,
@@ -81,9 +93,9 @@ fn draw_style(random: &mut Random, number: u64) -> Style {
         special: random.between(0, 2) > 0,
         orders: random.pick(&[2, 5, 10, 25]),
         numbers: random.pick(&[20, 60, u32::MAX]),
-        venues: random.pick(&[1, 1, 2, 2, 4, 4, 8, 8, 8, 32]),
-        shares: random.pick(&[3, 100, 1_000, 1_000_000]),
-        quoted: random.pick(&[3, 200, 5_000, 1_000_000]),
+        venues: random.pick(&[1, 1, 2, 2, 4, 4, 8, 8, 8, VENUES]),
+        shares: random.pick(&[3, 100, 1_000, MOST_SHARES]),
+        quoted: random.pick(&[3, 200, 5_000, MOST_SHARES]),
         cycles: random.between(1, 3),
         odd: random.pick(&[0, 5, 15, 40]),
         buys: random.pick(&[50, 50, 50, 90, 10]),
@@ -91,25 +103,37 @@ fn draw_style(random: &mut Random, number: u64) -> Style {
     };
     // Now and then a book that fills a side, or all tables.
     if number % 160 == 0 {
-        style.orders = 1_400;
+        style.orders = FILLING;
         style.numbers = u32::MAX;
         style.cycles = 1;
         style.odd = 1;
-        style.venues = 32;
+        style.venues = VENUES;
         style.shares = random.pick(&[10, 1_000]);
         style.quoted = style.shares * random.pick(&[1, 16, 40]);
         style.buys = random.pick(&[50, 97, 3]);
         style.special = true;
         if style.buys != 50 {
-            style.orders = 700;
+            style.orders = FILLING / 2;
         }
     }
     style
 }
 
+/// The fixed price after a call, by the fixed price and the stage before it.
+fn fixed_after(fixed: Option<u32>, stage: Stage, line: &Line, is_granted: bool) -> Option<u32> {
+    match (line, stage) {
+        _ if !is_granted => fixed,
+        (Line::Match(_), Stage::Satisfaction { price, .. }) => Some(price),
+        (Line::Begin { .. } | Line::New { .. }, _) => None,
+        _ => fixed,
+    }
+}
+
 impl Run<'_> {
     fn say(&mut self, line: Line) -> Result<Answer, u32> {
+        let Engine { stage, fixed, .. } = *self.engine;
         let answer = self.engine.play(&line);
+        assert_eq!(self.engine.fixed, fixed_after(fixed, stage, &line, answer.is_ok()), "{line:?}");
         self.played.push(Played { line, answer, digest: self.engine.digest() });
         answer
     }
@@ -191,9 +215,9 @@ impl Run<'_> {
         let width = i64::from(self.style.width);
         let edge = self.edge;
         for side in [1, 2] {
-            let many = if self.style.venues == 32 { 32 } else { self.random.between(0, self.style.venues) };
+            let many = if self.style.venues == VENUES { VENUES } else { self.random.between(0, self.style.venues) };
             for turn in 1..=many.max(u32::from(!wild)) {
-                let venue = if many == 32 { turn } else { self.random.between(1, 32) };
+                let venue = if many == VENUES { turn } else { self.random.between(1, VENUES) };
                 let price = match (wild, side) {
                     (true, _) => self.any_price(),
                     (false, 1) => self.price_near(edge - width - 1, edge),
@@ -209,10 +233,22 @@ impl Run<'_> {
     }
 
     fn play_odd_quote(&mut self) {
-        let venue = self.random.pick(&[0, 1, 32, 33, u32::MAX]);
+        let venue = self.random.pick(&[0, 1, VENUES, VENUES + 1, u32::MAX]);
         let side = self.random.pick(&[0, 1, 2, 3]);
-        let price = self.random.pick(&[0, 1, 2, 3, 19_999, 20_002, 20_100, 200_000, HIGHEST, HIGHEST + 200, u32::MAX]);
-        let shares = self.random.pick(&[0, 1, 1_000_000, 1_000_001]);
+        let price = self.random.pick(&[
+            0,
+            LOWEST_PRICE - 1,
+            LOWEST_PRICE,
+            LOWEST_PRICE + 1,
+            DOLLAR - 1,
+            DOLLAR + FINE_TICK,
+            DOLLAR + CENT / 2,
+            200_000,
+            HIGHEST_PRICE,
+            HIGHEST_PRICE + CENT,
+            u32::MAX,
+        ]);
+        let shares = self.random.pick(&[0, 1, MOST_SHARES, MOST_SHARES + 1]);
         let line =
             if self.chance(70) { Line::Quote { venue, side, price, shares } } else { Line::Clear { venue, side } };
         let _ = self.say(line);
@@ -260,9 +296,9 @@ impl Run<'_> {
             0 => order.number = 0,
             1 => order.side = self.random.pick(&[0, 3]),
             2 => order.class = 3,
-            3 => order.price = self.random.pick(&[0, 1, order.price + 1, HIGHEST + 200, u32::MAX]),
+            3 => order.price = self.random.pick(&[0, 1, order.price + 1, HIGHEST_PRICE + CENT, u32::MAX]),
             4 => order.shares = 0,
-            _ => order.shares = 1_000_001,
+            _ => order.shares = MOST_SHARES + 1,
         }
         order
     }
@@ -279,13 +315,13 @@ impl Run<'_> {
             let _ = self.say(Line::Halted(halted));
         }
         if let Some(end) = self.engine.last_end {
-            let gap = self.random.pick(&[60_000, 60_000, 61_000, 59_999]);
+            let gap = self.random.pick(&[CYCLE_GAP, CYCLE_GAP, CYCLE_GAP + 1_000, CYCLE_GAP - 1]);
             self.time = self.time.max(end.saturating_add(gap));
         }
         if let Some(last) = self.engine.last_time {
             self.time = self.time.max(last);
         }
-        self.time = self.time.max(30_600_000);
+        self.time = self.time.max(FIRST_START);
         let mut order = self.draw_order();
         let (bid, offer) = self.best();
         if let (Some(bid), Some(offer)) = (bid, offer) {
@@ -297,21 +333,26 @@ impl Run<'_> {
         order.shares = self.random.pick(&[least, least + 1, 3 * least]).max(order.shares);
         let mut facts = Facts {
             short_sale: false,
-            first_quote: Some(self.time - self.random.pick(&[300_000, 300_001, 5_000_000])),
+            first_quote: Some(self.time - self.random.pick(&[QUOTE_AGE, QUOTE_AGE + 1, 20 * QUOTE_AGE])),
             routing: true,
-            acceptance: self.random.pick(&[475, 500, 525]),
+            acceptance: self.random.pick(&[SHORTEST_ACCEPTANCE, MIDDLE_ACCEPTANCE, LONGEST_ACCEPTANCE]),
         };
         let mut time = self.time;
         if self.is_odd() {
             match self.random.between(0, 12) {
-                0 => time = self.random.pick(&[30_599_999, 53_700_000, 86_399_999, 86_400_000, u32::MAX]),
-                1 => time = time.saturating_sub(self.random.between(1, 100_000)),
+                0 => {
+                    time = self.random.pick(&[FIRST_START - 1, LAST_START + 1, DAY_END, DAY_END + 1, u32::MAX]);
+                }
+                1 => time = time.saturating_sub(self.random.between(1, 2 * CYCLE_GAP)),
                 2 => facts.first_quote = None,
-                3 => facts.first_quote = Some(time - 299_999),
+                3 => facts.first_quote = Some(time - (QUOTE_AGE - 1)),
                 4 => facts.first_quote = Some(u32::MAX - 5),
                 5 => facts.short_sale = true,
                 6 => facts.routing = false,
-                7 => facts.acceptance = self.random.pick(&[0, 474, 526, u32::MAX]),
+                7 => {
+                    let choices = [0, SHORTEST_ACCEPTANCE - 1, LONGEST_ACCEPTANCE + 1, u32::MAX];
+                    facts.acceptance = self.random.pick(&choices);
+                }
                 8 => order.shares = least - 1,
                 9 => order.price = self.any_price(),
                 10 => order = self.draw_bad_order(),
@@ -345,8 +386,8 @@ impl Run<'_> {
     /// Any call at all, with any numbers.
     fn play_anything(&mut self) {
         let time = match self.random.between(0, 3) {
-            0 => self.random.between(0, 90_000_000),
-            _ => self.time + self.random.between(0, 400),
+            0 => self.random.between(0, DAY_END + DAY_END / 24),
+            _ => self.time + self.random.between(0, 2 * TICKET_TIME),
         };
         let line = match self.random.between(0, 9) {
             0 => Line::Enter(self.draw_order()),
@@ -361,18 +402,15 @@ impl Run<'_> {
             _ => Line::Begin {
                 time,
                 order: self.draw_order(),
-                facts: Facts { short_sale: false, first_quote: Some(0), routing: true, acceptance: 500 },
+                facts: Facts { short_sale: false, first_quote: Some(0), routing: true, acceptance: MIDDLE_ACCEPTANCE },
             },
         };
         let _ = self.say(line);
     }
 
     fn accept(&mut self) {
-        let orders = if self.style.orders > 1_000 {
-            self.style.orders
-        } else {
-            self.random.between(0, self.style.orders)
-        };
+        let orders =
+            if self.style.orders == FILLING { FILLING } else { self.random.between(0, self.style.orders) };
         for _ in 0..orders {
             if self.is_odd() {
                 match self.random.between(0, 3) {
@@ -427,8 +465,8 @@ impl Run<'_> {
                 continue;
             }
             if self.is_odd() {
-                let time = self.random.pick(&[closes - 1, self.time, self.time - 1, 86_400_000, closes]);
-                let last_sale = self.random.pick(&[HIGHEST + 1, u32::MAX]);
+                let time = self.random.pick(&[closes - 1, self.time, self.time - 1, DAY_END + 1, closes]);
+                let last_sale = self.random.pick(&[HIGHEST_PRICE + 1, u32::MAX]);
                 let _ = self.say(Line::Close { time, last_sale });
             }
             self.time = closes + self.random.pick(&[0, 0, 1, 700]);
@@ -436,11 +474,11 @@ impl Run<'_> {
             let last_sale = match self.random.between(0, 9) {
                 0..=2 => 0,
                 5.. if bid.is_none() || offer.is_none() => 0,
-                3 => self.random.pick(&[1, HIGHEST, 3_999_999_900]),
+                3 => self.random.pick(&[1, HIGHEST_PRICE, HIGHEST_PRICE - CENT / 2]),
                 4 => self.any_price(),
                 _ => self.any_price().saturating_sub(100) + self.random.between(0, 200),
             };
-            let last_sale = last_sale.min(HIGHEST);
+            let last_sale = last_sale.min(HIGHEST_PRICE);
             let _ = self.say(Line::Close { time: self.time, last_sale });
         }
         if self.engine.venues.halted {
@@ -477,7 +515,7 @@ impl Run<'_> {
         for _ in 0..100 {
             let Stage::Satisfaction { deadline, .. } = self.engine.stage else { break };
             if self.is_odd() {
-                let time = self.random.pick(&[self.time - 1, 86_400_000, deadline - 1]);
+                let time = self.random.pick(&[self.time - 1, DAY_END + 1, deadline - 1]);
                 let _ = self.say(Line::Match(time));
             }
             self.time = self.time.max(deadline) + self.random.pick(&[0, 1]);
@@ -520,7 +558,7 @@ impl Run<'_> {
                 break;
             }
             if self.is_odd() {
-                let time = self.random.pick(&[0, self.time - 1, 86_400_000]);
+                let time = self.random.pick(&[0, self.time - 1, DAY_END + 1]);
                 let line = if self.chance(50) { Line::Finish(time) } else { Line::Abort(time) };
                 let _ = self.say(line);
             }

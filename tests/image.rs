@@ -1,5 +1,7 @@
 //! Books and their images.
 
+use crate::limits::{CENT, DOLLAR, FINE_PRICES, FINE_TICK, PRICES};
+
 #[derive(Clone, Copy)]
 pub struct Entry {
     pub price: u32,
@@ -29,19 +31,19 @@ impl Book {
     }
 }
 
-// Permitted prices are counted as rungs of a ladder, from 1 for the price 2.
+// Permitted prices are counted as rungs of a ladder, from 1 for the lowest.
 
-/// The rung of the price 20,000, where the tick grows from 2 to 200.
-pub const STEP_RUNG: u32 = 10_000;
+/// The rung of a dollar, where the distance between permitted prices grows to a cent.
+pub const STEP_RUNG: u32 = FINE_PRICES + 1;
 
-/// The rung of the highest price, 4,000,000,000.
-pub const LAST_RUNG: u32 = 20_009_900;
+/// The rung of the highest price.
+pub const LAST_RUNG: u32 = PRICES;
 
 /// The permitted price on a rung.
 pub const fn price_on(rung: u32) -> u32 {
     if rung < STEP_RUNG {
-        2 * rung
+        FINE_TICK * rung
     } else {
-        20_000 + 200 * (rung - STEP_RUNG)
+        DOLLAR + CENT * (rung - STEP_RUNG)
     }
 }

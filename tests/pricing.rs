@@ -1,8 +1,10 @@
 //! The price of a book, worked out from its image: sort each side once, then
 //! sweep the prices. It shares no code with the library it is compared to.
 
-/// What the output holds: price (4 bytes), cause (4), count (8).
-pub const OUTPUT_LEN: usize = 16;
+use crate::limits::{
+    CAUSE_BYTES, CENT, COUNT_BYTES, DOLLAR, FINE_TICK, HIGHEST_PRICE, KINDS_OF_ENTRIES,
+    LOWEST_PRICE, MOST_ENTRIES, MOST_SHARES, OUTPUT_LEN, PRICE_BYTES, WORD_LEN,
+};
 
 /// The refusals, in the order in which they are asked.
 pub const BAD_OUTPUT: u32 = 24;
@@ -17,15 +19,7 @@ pub const NOTHING_TRADES: u32 = 1;
 pub const QUOTES_CROSS: u32 = 2;
 pub const NO_REFERENCE: u32 = 3;
 
-const LOWEST_PRICE: u32 = 2;
-const HIGHEST_PRICE: u32 = 4_000_000_000;
-const STEP: u32 = 20_000;
-const MOST_SHARES: u32 = 1_000_000;
-
-/// The most buys, sells, bids and offers an image may hold.
-const LIMITS: [u32; 4] = [512, 512, 32, 32];
-
-/// The sixteen bytes of the output, or the number of the refusal.
+/// The bytes of the output, or the number of the refusal.
 pub fn price(image: &[u8], last_sale: u32, out_len: usize) -> Result<[u8; OUTPUT_LEN], u32> {
     if out_len != OUTPUT_LEN {
         return Err(BAD_OUTPUT);
@@ -49,21 +43,21 @@ pub fn price(image: &[u8], last_sale: u32, out_len: usize) -> Result<[u8; OUTPUT
 /// Whether orders and quotes may carry this price.
 pub fn is_permitted(price: u32) -> bool {
     // Constant divisors, and no early way out: this is cheap for many prices.
-    let on_tick = if price < STEP {
-        price.is_multiple_of(2)
+    let on_tick = if price < DOLLAR {
+        price.is_multiple_of(FINE_TICK)
     } else {
-        price.is_multiple_of(200)
+        price.is_multiple_of(CENT)
     };
     (LOWEST_PRICE..=HIGHEST_PRICE).contains(&price) & on_tick
 }
 
 /// The distance between permitted prices from here up.
 fn tick(price: u32) -> u32 {
-    if price < STEP { 2 } else { 200 }
+    if price < DOLLAR { FINE_TICK } else { CENT }
 }
 
 /// A little-endian number as it lies in the image.
-type Word = [u8; 4];
+type Word = [u8; WORD_LEN];
 
 /// The prices and shares of one kind of entry.
 struct Entries<'a> {
@@ -112,10 +106,14 @@ struct Book<'a> {
 impl<'a> Book<'a> {
     /// Splits the image; none if the sizes pass the limits or the length is not exact.
     fn parse(image: &'a [u8]) -> Option<Self> {
-        let (words, rest) = image.as_chunks::<4>();
-        let (sizes, entries) = words.split_first_chunk::<4>()?;
+        let (words, rest) = image.as_chunks::<WORD_LEN>();
+        let (sizes, entries) = words.split_first_chunk::<KINDS_OF_ENTRIES>()?;
         let sizes = sizes.map(u32::from_le_bytes);
-        if sizes.iter().zip(LIMITS).any(|(&size, limit)| size > limit) {
+        if sizes
+            .iter()
+            .zip(MOST_ENTRIES)
+            .any(|(&size, limit)| size > limit)
+        {
             return None;
         }
         let total = sizes.iter().sum::<u32>() as usize;
@@ -186,14 +184,14 @@ struct Entry(u64);
 
 impl Entry {
     /// What follows the last entry: it sorts after all others, at the highest price.
-    const END: Entry = Entry((HIGHEST_PRICE as u64) << 32 | u32::MAX as u64);
+    const END: Entry = Entry((HIGHEST_PRICE as u64) << u32::BITS | u32::MAX as u64);
 
     fn new((price, shares): (u32, u32)) -> Self {
-        Entry(u64::from(price) << 32 | u64::from(shares))
+        Entry(u64::from(price) << u32::BITS | u64::from(shares))
     }
 
     fn price(self) -> u32 {
-        (self.0 >> 32) as u32
+        (self.0 >> u32::BITS) as u32
     }
 
     fn shares(self) -> i64 {
@@ -283,8 +281,8 @@ impl Merged<'_> {
 /// The bytes of the output.
 fn output(price: u32, cause: u32, count: i64) -> [u8; OUTPUT_LEN] {
     let mut bytes = [0; OUTPUT_LEN];
-    bytes[..4].copy_from_slice(&price.to_le_bytes());
-    bytes[4..8].copy_from_slice(&cause.to_le_bytes());
-    bytes[8..].copy_from_slice(&count.to_le_bytes());
+    bytes[PRICE_BYTES].copy_from_slice(&price.to_le_bytes());
+    bytes[CAUSE_BYTES].copy_from_slice(&cause.to_le_bytes());
+    bytes[COUNT_BYTES].copy_from_slice(&count.to_le_bytes());
     bytes
 }

@@ -23,7 +23,7 @@ impl Random {
     /// A number from `low` to `high`, both included.
     pub fn between(&mut self, low: u32, high: u32) -> u32 {
         let width = u64::from(high - low) + 1;
-        low + (((self.next() >> 32) * width) >> 32) as u32
+        low + (((self.next() >> u32::BITS) * width) >> u32::BITS) as u32
     }
 
     /// One of the choices.

@@ -1,35 +1,11 @@
 //! Tickets of full tables: the proved walk against the same walk in plain Rust.
+mod limits;
+mod rows;
+
+use limits::{ORDER_ROWS, QUOTE_ROWS, TICKET_ROWS};
+use rows::{OrderRow, Quote, Ticket};
 use std::hint::black_box;
 use std::time::Instant;
-
-#[repr(C)]
-#[derive(Clone, Copy)]
-struct OrderRow {
-    number: u32,
-    class: u32,
-    price: u32,
-    shares: u32,
-    rest: u32,
-    counts: [u32; 5],
-}
-
-#[repr(C)]
-#[derive(Clone, Copy)]
-struct Quote {
-    price: u32,
-    shares: u32,
-    venue: u32,
-}
-
-#[repr(C)]
-#[derive(Clone, Copy, PartialEq, Debug)]
-struct Ticket {
-    order: u32,
-    venue: u32,
-    price: u32,
-    shares: u32,
-    reported: bool,
-}
 
 #[link(name = "benches", kind = "static")]
 unsafe extern "C" {
@@ -44,11 +20,7 @@ unsafe extern "C" {
     ) -> usize;
 }
 
-const ORDERS: usize = 512;
-const QUOTES: usize = 32;
-const ROOM: usize = 544;
 const ROUNDS: usize = 4_000;
-const EMPTY: Ticket = Ticket { order: 0, venue: 0, price: 0, shares: 0, reported: false };
 
 /// Walks orders and quotes; each ticket is as large as both still allow.
 #[inline(never)]
@@ -99,13 +71,13 @@ fn tables(scale: u32, seed: u64) -> (Vec<OrderRow>, Vec<Quote>, u64) {
         x ^= x << 17;
         (x >> 33) as u32 % n + 1
     };
-    let rows: Vec<OrderRow> = (0..ORDERS as u32)
+    let rows: Vec<OrderRow> = (0..ORDER_ROWS as u32)
         .map(|i| {
             let rest = below(1_000);
-            OrderRow { number: i + 1, class: 0, price: 200_400, shares: rest, rest, counts: [0; 5] }
+            OrderRow { number: i + 1, price: 200_400, shares: rest, rest, ..OrderRow::default() }
         })
         .collect();
-    let quotes: Vec<Quote> = (0..QUOTES as u32)
+    let quotes: Vec<Quote> = (0..QUOTE_ROWS as u32)
         .map(|i| Quote { price: 200_000, shares: below(1_000 * scale), venue: i + 1 })
         .collect();
     let routed = quotes.iter().map(|q| u64::from(q.shares)).sum();
@@ -118,10 +90,18 @@ fn main() {
         let (mut best_ours, mut best_plain) = (f64::MAX, f64::MAX);
         for round in 0..ROUNDS {
             let (rows, quotes, routed) = &sets[round % sets.len()];
-            let (mut ours, mut theirs) = ([EMPTY; ROOM], [EMPTY; ROOM]);
+            let (mut ours, mut theirs) = ([Ticket::default(); TICKET_ROWS], [Ticket::default(); TICKET_ROWS]);
             let start = Instant::now();
             let n = unsafe {
-                bench_tickets(rows.as_ptr(), ORDERS, quotes.as_ptr(), QUOTES, *routed, ours.as_mut_ptr(), ROOM)
+                bench_tickets(
+                    rows.as_ptr(),
+                    rows.len(),
+                    quotes.as_ptr(),
+                    quotes.len(),
+                    *routed,
+                    ours.as_mut_ptr(),
+                    ours.len(),
+                )
             };
             let t = start.elapsed().as_nanos() as f64;
             let start = Instant::now();
