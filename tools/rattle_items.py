@@ -8,10 +8,10 @@ import re
 LISTED = re.compile(r'"(?:\\.|[^"\\])*"|\'(?:\\[^\']*|[^\'\\\n])\'|//[^\n]*', re.S)
 HEAD = re.compile(
     r"(?P<seen>pub(?:\([^)]*\))?\s+)?(?:(?:final|unsafe|extern)\s+|const\s+(?=fn\b|unsafe\b|extern\b))*"
-    r"(?P<kind>ghost|use|mod|struct|enum|const|static|type|trait|impl|fn)\b\s*(?P<name>\w*)"
+    r"(?P<kind>ghost|use|mod|struct|enum|const|static|type|trait|impl|fn|macro_rules!)(?:(?<=!)|\b)\s*(?P<name>\w*)"
 )
 CLAUSE = re.compile(r"(?P<word>(?:requires|ensures|ghost)\*?)\s*(?P<name>[^{]*?)\s*\{")
-ENDS = {"mod": ";{", "struct": ";{", "enum": "{", "trait": "{", "impl": "{"}
+ENDS = {"mod": ";{", "struct": ";{", "enum": "{", "trait": "{", "impl": "{", "macro_rules!": "{"}
 EXPORTED = re.compile(r"no_mangle|export_name")
 
 
@@ -38,7 +38,7 @@ class Item:
         return any(EXPORTED.search(a) for a in self.attributes)
 
     def is_public(self):
-        return self.seen == "pub" or self.is_exported()
+        return self.seen == "pub" or self.is_exported() or "macro_export" in self.attributes
 
     def has(self, word):
         return any(c[0].startswith(word) for c in self.clauses)

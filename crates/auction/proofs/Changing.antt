@@ -16,9 +16,10 @@ use Rattle.routing.specs.declared.ticket.Ticket.{Ticket}
 use Rattle.routing.specs.Tickets.{empty_ticket}
 use Rattle.engine.specs.declared.state.Engine.{Engine}
 use Rattle.engine.specs.Stages.{is_matched}
-use Rattle.engine.specs.States.{Held, buys_in, tickets_in}
+use Rattle.engine.specs.States.{TableRows, buys_in, tickets_in}
 use Rattle.engine.specs.Questions.{ticket_at}
 use Rattle.engine.specs.Effects.{ahead_on, changed_in, with_order, with_reported, reported, cancel, report}
+use Rattle.engine.specs.Limits.{order_rows, ticket_rows}
 use Rattle.auction.specs.Tallies.{Tally, on_number, changed, settled}
 use Rattle.auction.proofs.Good.{Numbers, Free, SideGood, Good}
 use Rattle.auction.proofs.Used.{in_use, tickets_in_use}
@@ -59,45 +60,32 @@ module _ (f : OrderRow → OrderRow) (keeps : Keeps f) (n : ℕ) where
         side_mapped (λ w. cond (eqb w.number n) (f w) w) keeps_on side used rows _ ws good
         (ap (λ r. changed_in f (place_of n r) rows) is
         ∙ ap (changed_in f (place_of n rs)) good.rows_is
-        ∙ rows_changed rs (replicate (512 - length rs) empty_row) (numbers_ranked (ahead_on side) ws good.numbered)
+        ∙ rows_changed rs (replicate (order_rows - length rs) empty_row) (numbers_ranked (ahead_on side) ws good.numbered)
         (all_ranked (ahead_on side) (λ w. is_whole w ≡ true) ws good.whole) (ltb (before n rs) (length rs)) refl)
 
     side_free : Free n ws → SideGood side used rows (on_number n f ws)
     side_free free = subst (SideGood side used rows) (sym (free_unchanged n f ws free)) good
 
 -- the whole book
-module _ (f : OrderRow → OrderRow) (keeps : Keeps f) (n : ℕ) (e : Engine) (h : Held) (y : Tally) (good : Good e h y) where
+module _ (f : OrderRow → OrderRow) (keeps : Keeps f) (n : ℕ) (e : Engine) (h : TableRows) (y : Tally) (good : Good e h y) where
   changed_by : (t : Bool) → is_some (place_of n (buys_in e h)) ≡ t → Good e (with_order f n e h) (changed n f y)
   changed_by true is = rw is (record {
     stage_is = good.stage_is;
+    fixed_is = good.fixed_is;
     buys = side_changed f keeps n Buy e.used.buys h.buys y.buys good.buys;
-    sells = side_free f keeps n Sell e.used.sells h.sells y.sells good.sells (on_book_lem n Buy e.used.buys h.buys y.buys good.buys (λ k. Free k y.sells) is good.apart);
-    apart = apart_mapped _ _ (keeps_on f keeps n) (keeps_on f keeps n) y.buys y.sells good.apart;
-    bids_are = good.bids_are;
-    offers_are = good.offers_are;
-    bids_used = good.bids_used;
-    offers_used = good.offers_used;
-    no_quotes = good.no_quotes;
-    tickets_used = good.tickets_used;
-    tickets_few = good.tickets_few;
-    tickets_are = good.tickets_are;
-    no_tickets = good.no_tickets;
+    sells = side_free f keeps n Sell e.used.sells h.sells y.sells good.sells
+        (on_book_lem n Buy e.used.buys h.buys y.buys good.buys (λ k. Free k y.sells) is good.sides_apart);
+    sides_apart = apart_mapped _ _ (keeps_on f keeps n) (keeps_on f keeps n) y.buys y.sells good.sides_apart;
+    others = good.others;
     even = good.even;
   })
   changed_by false is = rw is (record {
     stage_is = good.stage_is;
+    fixed_is = good.fixed_is;
     buys = side_free f keeps n Buy e.used.buys h.buys y.buys good.buys (off_book n Buy e.used.buys h.buys y.buys good.buys is);
     sells = side_changed f keeps n Sell e.used.sells h.sells y.sells good.sells;
-    apart = apart_mapped _ _ (keeps_on f keeps n) (keeps_on f keeps n) y.buys y.sells good.apart;
-    bids_are = good.bids_are;
-    offers_are = good.offers_are;
-    bids_used = good.bids_used;
-    offers_used = good.offers_used;
-    no_quotes = good.no_quotes;
-    tickets_used = good.tickets_used;
-    tickets_few = good.tickets_few;
-    tickets_are = good.tickets_are;
-    no_tickets = good.no_tickets;
+    sides_apart = apart_mapped _ _ (keeps_on f keeps n) (keeps_on f keeps n) y.buys y.sells good.sides_apart;
+    others = good.others;
     even = good.even;
   })
 
@@ -107,13 +95,13 @@ module _ (f : OrderRow → OrderRow) (keeps : Keeps f) (n : ℕ) (e : Engine) (h
 pub keeps_cancelled : Keeps with_cancelled
 keeps_cancelled = record { number = λ w. refl; class = λ w. refl; price = λ w. refl; shares = λ w. refl; whole = λ w h. (stays_whole w h).cancelled }
 
-pub cancel_good : (e : Engine) (h : Held) (y : Tally) (n : ℕ) → Good e h y → Good (cancel e h n).engine (cancel e h n).held (changed n with_cancelled y)
+pub cancel_good : (e : Engine) (h : TableRows) (y : Tally) (n : ℕ) → Good e h y → Good (cancel e h n).engine (cancel e h n).held (changed n with_cancelled y)
 cancel_good e h y n good = changed_good with_cancelled keeps_cancelled n e h y good
 
 keeps_settled : (shares filled : ℕ) (late : Bool) → Keeps (with_settled shares filled late)
 keeps_settled shares filled late = record { number = λ w. refl; class = λ w. refl; price = λ w. refl; shares = λ w. refl; whole = λ w h. (stays_whole w h).settled shares filled late }
 
-module _ (e : Engine) (h : Held) (y : Tally) (good : Good e h y) (ticket filled : ℕ) where
+module _ (e : Engine) (h : TableRows) (y : Tally) (good : Good e h y) (ticket filled : ℕ) where
   -- with any ticket in the place of one that exists
   settled_good : (t : Ticket) → 1 ≤ ticket → ticket ≤ length y.tickets
       → Good e (with_reported ticket t (with_order (with_settled t.shares filled (is_matched y.stage)) t.order e h)) (settled ticket filled t y)
@@ -123,21 +111,22 @@ module _ (e : Engine) (h : Held) (y : Tally) (good : Good e h y) (ticket filled 
       let as_long = length-set y.tickets (ticket - 1) (reported t) in
       record {
         stage_is = c.stage_is;
+        fixed_is = c.fixed_is;
         buys = c.buys;
         sells = c.sells;
-        apart = c.apart;
-        bids_are = c.bids_are;
-        offers_are = c.offers_are;
-        bids_used = c.bids_used;
-        offers_used = c.offers_used;
-        no_quotes = c.no_quotes;
-        tickets_used = c.tickets_used ∙ sym as_long;
-        tickets_few = rw as_long c.tickets_few;
-        tickets_are =
-            ap (λ ts. set ts (ticket - 1) (reported t)) c.tickets_are
-            ∙ set-append_left y.tickets (replicate (544 - length y.tickets) empty_ticket) (ticket - 1) (reported t) (omega arith)
-            ∙ ap (λ n. set y.tickets (ticket - 1) (reported t) ++ replicate (544 - n) empty_ticket) (sym as_long);
-        no_tickets = λ k. ap (λ ts. set ts (ticket - 1) (reported t)) (c.no_tickets k);
+        sides_apart = c.sides_apart;
+        others = record {
+          bids = c.others.bids;
+          offers = c.others.offers;
+          tickets = record {
+            used_is = c.others.tickets.used_is ∙ sym as_long;
+            rows_are =
+                ap (λ ts. set ts (ticket - 1) (reported t)) c.others.tickets.rows_are
+                ∙ set-append_left y.tickets (replicate (ticket_rows - length y.tickets) empty_ticket) (ticket - 1) (reported t) (omega arith)
+                ∙ ap (λ n. set y.tickets (ticket - 1) (reported t) ++ replicate (ticket_rows - n) empty_ticket) (sym as_long);
+          };
+          tickets_few = rw as_long c.others.tickets_few;
+        };
         even = c.even;
       }
 

@@ -1,4 +1,5 @@
--- Shares handed out over the rows of a side are handed out over its orders, however they are listed.
+-- Shares handed out over the rows of a side are handed out over its orders, however they are
+-- listed.
 use Rattle.std.proofs.Common.{◌≡◌, ℕ, zero, suc, ◌+◌, ◌-◌, ◌<◌, min, Bool, true, cond, List, [], ◌∷◌, ◌++◌, map, length, get_or, replicate, sum_by, sym, refl, ap, ◌∙◌, arith}
 use Rattle.std.specs.List.{AllByRecursion}
 use Rattle.std.proofs.lemmas.List.{length-map, get_or-map, ext_get_or}
@@ -15,6 +16,7 @@ use Rattle.orders.proofs.Conserved.{length_handed, in_order, stays_whole}
 use Rattle.routing.specs.Allotment.{ahead_of}
 use Rattle.routing.proofs.Allots.{rows_handed}
 use Rattle.engine.specs.Effects.{ahead_on}
+use Rattle.engine.specs.Limits.{order_rows}
 use Rattle.auction.specs.Tallies.{share_of, handed_out}
 use Rattle.auction.proofs.Good.{Numbers, Free, SideGood}
 use Rattle.auction.proofs.Mapping.{Keeps, side_mapped, apart_mapped}
@@ -104,11 +106,11 @@ module _ (g : ℕ → OrderRow → OrderRow) (takes : Takes g) (side : Side) (k 
   pub side_handed : (used : ℕ) (rows : List OrderRow) → SideGood side used rows ws → SideGood side used (handed g k rows) (handed_out g side k ws)
   side_handed used rows good =
       let rs : List OrderRow = ranked (ahead_on side) ws in
-      let past : List OrderRow = replicate (512 - length rs) empty_row in
+      let past : List OrderRow = replicate (order_rows - length rs) empty_row in
       side_mapped after keeps_after side used rows (handed g k rows) ws good
       (ap (handed g k) good.rows_is
       ∙ in_order g k rs past
-      ∙ ap (λ xs. handed g k rs ++ xs) (handed_empty g takes.empty (k - sum_by available rs) (512 - length rs))
+      ∙ ap (λ xs. handed g k rs ++ xs) (handed_empty g takes.empty (k - sum_by available rs) (order_rows - length rs))
       ∙ ap (λ xs. xs ++ past) (handed_mapped good.whole good.numbered))
 
 pub apart_handed : (g : ℕ → OrderRow → OrderRow) → Takes g → (i j : ℕ) (bs ss : List OrderRow)

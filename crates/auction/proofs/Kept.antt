@@ -1,9 +1,9 @@
 -- What holds after every run of calls.
-use Rattle.std.proofs.Common.{◌≡◌, ℕ, Bool, true, false, List, [], ◌∷◌, take, sym, refl, ap, ◌∙◌, subst, arith}
+use Rattle.std.proofs.Common.{◌≡◌, ℕ, true, false, List, [], ◌∷◌, take, sym, refl, ap, subst, inl, inr, arith}
 use Rattle.std.specs.List.{AllByRecursion}
 use Rattle.std.specs.List.Sorted.{IsPermutation}
 use Rattle.std.proofs.ByRecursion.{All-weaker}
-use Rattle.std.proofs.lemmas.Bool.{eqb-true, false≢true, both_ways}
+use Rattle.std.proofs.lemmas.Bool.{cases_Bool, eqb-true, false≢true, both_ways}
 use Rattle.ranking.specs.Ranked.{Sorted}
 use Rattle.ranking.proofs.Ranks.{shuffled_ranked}
 use Rattle.market.specs.declared.side.Side.{Side}
@@ -16,24 +16,21 @@ use Rattle.routing.specs.Tickets.{empty_ticket}
 use Rattle.engine.specs.declared.state.Engine.{Engine}
 use Rattle.engine.specs.Limits.{quote_rows, ticket_rows}
 use Rattle.engine.specs.Stages.{is_acceptance}
-use Rattle.engine.specs.States.{Held}
+use Rattle.engine.specs.States.{TableRows}
 use Rattle.engine.specs.Effects.{ahead_on}
 use Rattle.auction.specs.Histories.{History, fresh, more}
-use Rattle.auction.specs.Laws.{Whole, OneEach, Fit, TablesTally, Unbegun, NoQuotesYet, then_empty, Standing}
-use Rattle.auction.specs.Tallies.{Tally, start}
-use Rattle.auction.proofs.Good.{Numbers, Sized, SideGood, Good, Out, Kept}
-use Rattle.auction.proofs.Used.{in_use, bids_in_use, offers_in_use, tickets_in_use}
+use Rattle.auction.specs.Laws.{Whole, OneEach, Fit, TablesTally, Unbegun, NoQuotesYet, Standing}
+use Rattle.auction.specs.Tallies.{Tally, first_tally}
+use Rattle.auction.specs.Posts.{Posts}
+use Rattle.auction.proofs.Good.{Numbers, Sized, SideGood, other_tables, Running, Kept}
+use Rattle.auction.proofs.Used.{table_empty, in_use, bids_in_use, offers_in_use, tickets_in_use}
 use Rattle.auction.proofs.Ranking.{sorted_on}
-use Rattle.auction.proofs.Tallied.{Tallied, start_tallied, fed_tallied}
-use Rattle.auction.proofs.Going.{fresh_kept, called_kept}
+use Rattle.auction.proofs.Going.{fresh_kept}
+use Rattle.auction.proofs.Granting.{after_call}
 
-pub run_kept : {e : Engine} {h : Held} {y : Tally} → History e h y → Kept e h y
+pub run_kept : {e : Engine} {h : TableRows} {y : Tally} {p : Posts} → History e h y p → Kept e h y
 run_kept (fresh issue h) = fresh_kept issue h
-run_kept (more m call left run called) = called_kept _ m _ _ (run_kept run) call left called
-
-pub run_tallied : {e : Engine} {h : Held} {y : Tally} → History e h y → Tallied y
-run_tallied (fresh issue h) = start_tallied
-run_tallied (more m call left run called) = fed_tallied _ (run_tallied run) m call left.answer
+run_kept (more m call left run called) = (after_call _ m _ _ (run_kept run) call left called).kept
 
 each_whole : (ws : List OrderRow) → AllByRecursion (λ w. is_whole w ≡ true) ws → AllByRecursion Whole ws
 each_whole ws a = All-weaker (λ w. is_whole w ≡ true) Whole (λ w h. eqb-true _ _ h) ws a
@@ -54,67 +51,68 @@ module _ (side : Side) (used : ℕ) (rows ws : List OrderRow) (good : SideGood s
   in_use_listed : IsPermutation ws (take used rows)
   in_use_listed = subst (IsPermutation ws) (sym (in_use side used rows ws good)) (shuffled_ranked (ahead_on side) ws)
 
-module _ (e : Engine) (h : Held) (y : Tally) (tallied : Tallied y) where
-  module _ (good : Good e h y) (out : Out y) (begun : y.begun ≡ true) where
-    good_tables : TablesTally e h y
-    good_tables = record {
-      stage = good.stage_is;
-      buys_used = good.buys.used_is;
-      sells_used = good.sells.used_is;
-      bids_used = good.bids_used;
-      offers_used = good.offers_used;
-      tickets_used = good.tickets_used;
-      buys = good.buys.rows_is;
-      sells = good.sells.rows_is;
-      bids = good.bids_are;
-      offers = good.offers_are;
-      tickets = good.tickets_are;
-      buys_sorted = in_use_sorted Buy e.used.buys h.buys y.buys good.buys;
-      sells_sorted = in_use_sorted Sell e.used.sells h.sells y.sells good.sells;
-      buys_listed = in_use_listed Buy e.used.buys h.buys y.buys good.buys;
-      sells_listed = in_use_listed Sell e.used.sells h.sells y.sells good.sells;
-      bids_in_use = bids_in_use e h y good;
-      offers_in_use = offers_in_use e h y good;
-      tickets_in_use = tickets_in_use e h y good;
-    }
+module _ (e : Engine) (h : TableRows) (y : Tally) (r : Running e h y) where
+  running_tables : TablesTally e h y
+  running_tables = record {
+    stage = r.good.stage_is;
+    fixed = r.good.fixed_is;
+    buys_used = r.good.buys.used_is;
+    sells_used = r.good.sells.used_is;
+    bids_used = r.good.others.bids.used_is;
+    offers_used = r.good.others.offers.used_is;
+    tickets_used = r.good.others.tickets.used_is;
+    buys = r.good.buys.rows_is;
+    sells = r.good.sells.rows_is;
+    bids = r.good.others.bids.rows_are;
+    offers = r.good.others.offers.rows_are;
+    tickets = r.good.others.tickets.rows_are;
+    buys_sorted = in_use_sorted Buy e.used.buys h.buys y.buys r.good.buys;
+    sells_sorted = in_use_sorted Sell e.used.sells h.sells y.sells r.good.sells;
+    buys_listed = in_use_listed Buy e.used.buys h.buys y.buys r.good.buys;
+    sells_listed = in_use_listed Sell e.used.sells h.sells y.sells r.good.sells;
+    bids_in_use = bids_in_use e h y r.good;
+    offers_in_use = offers_in_use e h y r.good;
+    tickets_in_use = tickets_in_use e h y r.good;
+  }
 
-    good_unquoted : y.quotes_noted ≡ false → NoQuotesYet h y
-    good_unquoted k =
-        let none = tallied.unquoted k in
-        record {
-          bids = none.bids;
-          offers = none.offers;
-          tickets = none.tickets;
-          bid_rows = good.bids_are ∙ ap (then_empty quote_rows no_quote) none.bids;
-          offer_rows = good.offers_are ∙ ap (then_empty quote_rows no_quote) none.offers;
-          ticket_rows_empty = good.tickets_are ∙ ap (then_empty ticket_rows empty_ticket) none.tickets;
-        }
+  running_unquoted : y.quotes_noted ≡ false → NoQuotesYet h y
+  running_unquoted k =
+      let none = r.tallied.noted.unquoted k in
+      let tables = other_tables e.used h y in
+      record {
+        bids = none.bids;
+        offers = none.offers;
+        tickets = none.tickets;
+        bid_rows = table_empty quote_rows no_quote tables.bids r.good.others.bids none.bids;
+        offer_rows = table_empty quote_rows no_quote tables.offers r.good.others.offers none.offers;
+        ticket_rows_empty = table_empty ticket_rows empty_ticket tables.tickets r.good.others.tickets none.tickets;
+      }
 
-    good_standing : Standing e h y
-    good_standing = record {
-      tables = λ _. good_tables;
-      unbegun = λ k. absurd (both_ways y.begun k begun);
-      buys_whole = each_whole y.buys good.buys.whole;
-      sells_whole = each_whole y.sells good.sells.whole;
-      buys_fit = each_fit y.buys good.buys.priced good.buys.sized;
-      sells_fit = each_fit y.sells good.sells.priced good.sells.sized;
-      buys_out = out.buys;
-      sells_out = out.sells;
-      buys_numbered = one_each y.buys good.buys.numbered;
-      sells_numbered = one_each y.sells good.sells.numbered;
-      apart = good.apart;
-      bought = tallied.bought;
-      sold = tallied.sold;
-      even = good.even;
-      accepting = λ closes is. tallied.accepting (ap is_acceptance is);
-      unquoted = λ _. good_unquoted;
-      bids_sorted = tallied.bids_sorted;
-      offers_sorted = tallied.offers_sorted;
-      few = good.tickets_few;
-      some_shares = tallied.some_shares;
-    }
+  running_standing : Standing e h y
+  running_standing = record {
+    tables = λ _. running_tables;
+    unbegun = λ k. absurd (both_ways y.begun k r.begun);
+    buys_whole = each_whole y.buys r.good.buys.whole;
+    sells_whole = each_whole y.sells r.good.sells.whole;
+    buys_fit = each_fit y.buys r.good.buys.priced r.good.buys.sized;
+    sells_fit = each_fit y.sells r.good.sells.priced r.good.sells.sized;
+    buys_out = r.out.buys;
+    sells_out = r.out.sells;
+    buys_numbered = one_each y.buys r.good.buys.numbered;
+    sells_numbered = one_each y.sells r.good.sells.numbered;
+    sides_apart = r.good.sides_apart;
+    bought = r.tallied.bought;
+    sold = r.tallied.sold;
+    even = r.good.even;
+    accepting = λ closes is. r.tallied.noted.accepting (ap is_acceptance is);
+    unquoted = λ _. running_unquoted;
+    bids_sorted = r.tallied.noted.bids_sorted;
+    offers_sorted = r.tallied.noted.offers_sorted;
+    few = r.good.others.tickets_few;
+    some_shares = r.tallied.noted.some_shares;
+  }
 
-start_standing : (e : Engine) (h : Held) → Unbegun e start → Standing e h start
+start_standing : (e : Engine) (h : TableRows) → Unbegun e first_tally → Standing e h first_tally
 start_standing e h none = record {
   tables = λ k. absurd (false≢true k);
   unbegun = λ _. none;
@@ -126,7 +124,7 @@ start_standing e h none = record {
   sells_out = tt;
   buys_numbered = tt;
   sells_numbered = tt;
-  apart = tt;
+  sides_apart = tt;
   bought = refl;
   sold = refl;
   even = refl;
@@ -138,11 +136,10 @@ start_standing e h none = record {
   some_shares = tt;
 }
 
-standing_by : (e : Engine) (h : Held) (y : Tally) → Tallied y → Kept e h y → (t : Bool) → y.begun ≡ t → Standing e h y
-standing_by e h y tallied kept true begun = good_standing e h y tallied (kept.good begun) kept.out begun
-standing_by e h y tallied kept false none =
-    let is = kept.fresh none in
-    subst (Standing e h) (sym is.1) (start_standing e h (record { open_stage = is.0; none = is.2; empty = refl }))
-
-pub run_standing : {e : Engine} {h : Held} {y : Tally} → History e h y → Standing e h y
-run_standing {e} {h} {y} run = standing_by e h y (run_tallied run) (run_kept run) y.begun refl
+pub run_standing : {e : Engine} {h : TableRows} {y : Tally} {p : Posts} → History e h y p → Standing e h y
+run_standing {e} {h} {y} run = elim (cases_Bool y.begun) [
+  | inl begun ↦ running_standing e h y ((run_kept run).running begun)
+  | inr none ↦
+      let is = (run_kept run).fresh none in
+      subst (Standing e h) (sym is.empty) (start_standing e h (record { open_stage = is.open_stage; unfixed = is.unfixed; none = is.none; empty = refl }))
+]

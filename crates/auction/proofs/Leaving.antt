@@ -14,10 +14,10 @@ use Rattle.orders.specs.Rows.{empty_row, is_whole, with_cancelled}
 use Rattle.orders.specs.Tables.{before, place_of, available}
 use Rattle.engine.specs.declared.stage.Stage.TheVariants.{Open}
 use Rattle.engine.specs.declared.state.Engine.{Engine}
-use Rattle.engine.specs.States.{Held, buys_in, sells_in}
+use Rattle.engine.specs.States.{TableRows, buys_in, sells_in}
 use Rattle.engine.specs.Questions.{rest_at, rest_of}
 use Rattle.engine.specs.Effects.{ahead_on, all_rests}
-use Rattle.auction.specs.Tallies.{Tally, staged, on_number, changed, without_rests}
+use Rattle.auction.specs.Tallies.{Tally, tally_in_stage, on_number, changed, orders_cancelled}
 use Rattle.auction.specs.Laws.{over_all, others, NoRestOf, but_cancelled, LeavesRest, Cancels, Ends}
 use Rattle.auction.proofs.Good.{Numbers, Free, SideGood, Good}
 use Rattle.auction.proofs.Used.{in_use}
@@ -126,7 +126,7 @@ module _ (n : ℕ) where
         ∙ rest_placed (ranked (ahead_on side) ws) (numbers_ranked (ahead_on side) ws good.numbered) (all_ranked (ahead_on side) (λ w. is_whole w ≡ true) ws good.whole)
         ∙ sum_ranked (ahead_on side) own ws
 
-  module _ (e : Engine) (h : Held) (y : Tally) (good : Good e h y) where
+  module _ (e : Engine) (h : TableRows) (y : Tally) (good : Good e h y) where
     -- what a cancel answers
     rest_of_order : rest_of e h n ≡ sum_by own y.buys + sum_by own y.sells
     rest_of_order = by_side (is_some (place_of n (buys_in e h))) refl
@@ -139,7 +139,7 @@ module _ (n : ℕ) where
 
         by_side : (t : Bool) → is_some (place_of n (buys_in e h)) ≡ t
             → cond t (rest_at (place_of n (buys_in e h)) (buys_in e h)) (rest_at (place_of n (sells_in e h)) (sells_in e h)) ≡ sum_by own y.buys + sum_by own y.sells
-        by_side true is = omega (arith, b, own_none y.sells (on_book_lem n Buy e.used.buys h.buys y.buys good.buys (λ k. Free k y.sells) is good.apart))
+        by_side true is = omega (arith, b, own_none y.sells (on_book_lem n Buy e.used.buys h.buys y.buys good.buys (λ k. Free k y.sells) is good.sides_apart))
         by_side false is = omega (arith, s, own_none y.buys (off_book n Buy e.used.buys h.buys y.buys good.buys is))
 
     pub cancels : 1 ≤ rest_of e h n → Cancels n (rest_of e h n) y (changed n with_cancelled y)
@@ -158,7 +158,7 @@ none_left : (ws : List OrderRow) → sum_by (λ w. w.rest) (map with_cancelled w
 none_left [] = refl
 none_left (w ∷ ws) = omega (arith, sum_by-cons (λ v. v.rest) (with_cancelled w) (map with_cancelled ws), none_left ws)
 
-pub ends : (shares : ℕ) (y : Tally) → shares ≡ over_all (λ w. w.rest) y → Ends shares y (staged Open (without_rests y))
+pub ends : (shares : ℕ) (y : Tally) → shares ≡ over_all (λ w. w.rest) y → Ends shares y (tally_in_stage Open (orders_cancelled y))
 ends shares y is = record {
   leaves = record {
     rest = omega (arith, is, none_left y.buys, none_left y.sells);
@@ -176,7 +176,7 @@ ends shares y is = record {
 }
 
 -- what an abort answers
-pub all_rests_of : (e : Engine) (h : Held) (y : Tally) → Good e h y → all_rests h ≡ over_all (λ w. w.rest) y
+pub all_rests_of : (e : Engine) (h : TableRows) (y : Tally) → Good e h y → all_rests h ≡ over_all (λ w. w.rest) y
 all_rests_of e h y good = omega (
   arith,
   rows_sum Buy e.used.buys h.buys y.buys good.buys available refl,

@@ -19,9 +19,11 @@ pub mod Exhausting
 pub mod Taken
 pub mod Ticketing
 pub mod Going
+pub mod Tallied
+pub mod Closing
+pub mod Granting
 pub mod Kept
 pub mod Lawful
-pub mod Tallied
 pub mod Leaving
 pub mod TicketRank
 pub mod Reaching

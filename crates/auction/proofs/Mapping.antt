@@ -11,6 +11,7 @@ use Rattle.market.specs.declared.side.Side.TheVariants.{Buy, Sell}
 use Rattle.orders.specs.declared.row.OrderRow.{OrderRow}
 use Rattle.orders.specs.Rows.{empty_row, is_whole}
 use Rattle.engine.specs.Effects.{ahead_on}
+use Rattle.engine.specs.Limits.{order_rows}
 use Rattle.auction.specs.Laws.{then_empty}
 use Rattle.auction.proofs.Good.{Free, Sized, SideGood}
 use Rattle.auction.proofs.Numbered.{free_mapped, numbers_mapped}
@@ -29,7 +30,7 @@ module _ (g : OrderRow → OrderRow) (keeps : Keeps g) where
 
   -- the rows are changed as the orders are
   pub side_mapped : (side : Side) (used : ℕ) (rows rows' ws : List OrderRow) → SideGood side used rows ws
-      → rows' ≡ map g (ranked (ahead_on side) ws) ++ replicate (512 - length (ranked (ahead_on side) ws)) empty_row
+      → rows' ≡ map g (ranked (ahead_on side) ws) ++ replicate (order_rows - length (ranked (ahead_on side) ws)) empty_row
       → SideGood side used rows' (map g ws)
   side_mapped side used rows rows' ws good is =
       let ahead : OrderRow → OrderRow → Bool = ahead_on side in
@@ -39,8 +40,8 @@ module _ (g : OrderRow → OrderRow) (keeps : Keeps g) where
         used_is = good.used_is ∙ sym as_many;
         within = rw as_many good.within;
         rows_is =
-            is ∙ ap (λ n. map g (ranked ahead ws) ++ replicate (512 - n) empty_row) (sym (length-map (ranked ahead ws) g))
-            ∙ ap (then_empty 512 empty_row) (sym as-ranked);
+            is ∙ ap (λ n. map g (ranked ahead ws) ++ replicate (order_rows - n) empty_row) (sym (length-map (ranked ahead ws) g))
+            ∙ ap (then_empty order_rows empty_row) (sym as-ranked);
         whole = All-map (λ w. is_whole w ≡ true) g ws (All-weaker (λ w. is_whole w ≡ true) (λ w. is_whole (g w) ≡ true) keeps.whole ws good.whole);
         priced = All-map (λ w. Permitted w.price) g ws (All-weaker (λ w. Permitted w.price) (λ w. Permitted (g w).price) (λ w k. rw (keeps.price w) k) ws good.priced);
         sized = All-map Sized g ws (All-weaker Sized (λ w. Sized (g w)) (λ w k. record { number = rw (keeps.number w) k.number; class = rw (keeps.class w) k.class; least = rw (keeps.shares w) k.least; most = rw (keeps.shares w) k.most }) ws good.sized);

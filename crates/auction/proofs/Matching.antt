@@ -1,13 +1,13 @@
--- A match keeps the engine, its tables and the tally together, and executes as much on one side as on the other.
-use Rattle.std.proofs.Common.{◌≡◌, ℕ, ◌+◌, ◌≤◌, min, sum_by, refl, ap, ◌∙◌, subst, arith}
-use Rattle.std.proofs.lemmas.Bool.{false≢true}
+-- A match keeps the engine, its tables and the tally together, and executes as much on one side as
+-- on the other.
+use Rattle.std.proofs.Common.{◌≡◌, ℕ, ◌+◌, ◌≤◌, min, sum_by, refl, ap, ◌∙◌, subst, arith, Some}
 use Rattle.market.specs.declared.side.Side.TheVariants.{Buy, Sell}
 use Rattle.pricing.specs.Books.{executable_at}
 use Rattle.orders.specs.Rows.{with_here}
 use Rattle.orders.specs.Tables.{rest_levels}
 use Rattle.engine.specs.declared.state.Engine.{Engine}
 use Rattle.engine.specs.Stages.{price_of}
-use Rattle.engine.specs.States.{Held}
+use Rattle.engine.specs.States.{TableRows}
 use Rattle.engine.specs.Effects.{to_execute, matched}
 use Rattle.auction.specs.Tallies.{Tally, share_of, matchable, executed}
 use Rattle.auction.specs.Laws.{but_here, Matches}
@@ -19,7 +19,7 @@ use Rattle.auction.proofs.Exhausting.{match_exhausts}
 use Rattle.auction.proofs.Leaving.{map_kept}
 use Rattle.auction.proofs.Resting.{executable_rows, executable_within, shares_sum}
 
-module _ (e : Engine) (h : Held) (y : Tally) (good : Good e h y) where
+module _ (e : Engine) (h : TableRows) (y : Tally) (good : Good e h y) where
   executable_matchable : to_execute h (price_of e.stage) ≡ matchable y
   executable_matchable =
       let p : ℕ = price_of e.stage in
@@ -51,34 +51,30 @@ module _ (e : Engine) (h : Held) (y : Tally) (good : Good e h y) where
         limits = executed_limits y;
         bought = omega (arith, is, b, shares_sum Buy n y.buys good.buys.whole good.buys.numbered);
         sold = omega (arith, is, s, shares_sum Sell n y.sells good.sells.whole good.sells.numbered);
+        fixed = refl;
         exhausted = match_exhausts y;
         buys = map_kept but_here (λ w. with_here (share_of Buy n y.buys w) w) (λ w. refl) y.buys;
         sells = map_kept but_here (λ w. with_here (share_of Sell n y.sells w) w) (λ w. refl) y.sells;
         only = refl;
       }
 
-  matched_good : (time n : ℕ) → n ≡ matchable y → Good (matched e h time n).engine (matched e h time n).held (executed n y)
+  matched_good : (time n : ℕ) → n ≡ matchable y
+      → Good (matched e h time (price_of e.stage) n).engine (matched e h time (price_of e.stage) n).held (executed n y)
   matched_good time n is = record {
     stage_is = refl;
+    fixed_is = ap (λ s. Some (price_of s)) good.stage_is;
     buys = side_handed with_here here_takes Buy n y.buys e.used.buys h.buys good.buys;
     sells = side_handed with_here here_takes Sell n y.sells e.used.sells h.sells good.sells;
-    apart = apart_handed with_here here_takes n n y.buys y.sells good.apart;
-    bids_are = good.bids_are;
-    offers_are = good.offers_are;
-    bids_used = good.bids_used;
-    offers_used = good.offers_used;
-    no_quotes = λ k. absurd (false≢true k);
-    tickets_used = good.tickets_used;
-    tickets_few = good.tickets_few;
-    tickets_are = good.tickets_are;
-    no_tickets = λ k. absurd (false≢true k);
+    sides_apart = apart_handed with_here here_takes n n y.buys y.sells good.sides_apart;
+    others = good.others;
     even = even_handed n
         (omega (arith, is, executable_within Buy (price_of y.stage) y.buys))
         (omega (arith, is, executable_within Sell (price_of y.stage) y.sells));
   }
 
   pub match_good : (time : ℕ)
-      → Good (matched e h time (to_execute h (price_of e.stage))).engine (matched e h time (to_execute h (price_of e.stage))).held (executed (matchable y) y)
+      → Good (matched e h time (price_of e.stage) (to_execute h (price_of e.stage))).engine
+      (matched e h time (price_of e.stage) (to_execute h (price_of e.stage))).held (executed (matchable y) y)
   match_good time =
       let n : ℕ = to_execute h (price_of e.stage) in
-      subst (λ k. Good (matched e h time n).engine (matched e h time n).held (executed k y)) executable_matchable (matched_good time n executable_matchable)
+      subst (λ k. Good (matched e h time (price_of e.stage) n).engine (matched e h time (price_of e.stage) n).held (executed k y)) executable_matchable (matched_good time n executable_matchable)

@@ -1,9 +1,9 @@
 -- Orders of which no two have one number.
 use Rattle.std.proofs.Common.{◌≡◌, ℕ, suc, ◌+◌, ◌<◌, ◌≤◌, Bool, true, false, cond, not, eqb, ltb, List, [], ◌∷◌, ◌++◌, map, length, get_or, set, is_some, Some, None, sym, refl, ap, arith}
-use Rattle.std.specs.List.{AllByRecursion}
+use Rattle.std.specs.List.{AllByRecursion, list_all}
 use Rattle.std.proofs.ByRecursion.{All-push, All-weaker, All-map, All-from_get_or}
 use Rattle.std.proofs.lemmas.Bool.{eqb-true, eqb-false, ne_eqb, ltb-false, not-false}
-use Rattle.ranking.specs.Ranked.{all_pass, placed, ranked_onto, ranked}
+use Rattle.ranking.specs.Ranked.{placed, ranked_onto, ranked}
 use Rattle.ranking.proofs.Insertion.{all_placed}
 use Rattle.orders.specs.declared.row.OrderRow.{OrderRow}
 use Rattle.orders.specs.Rows.{empty_row}
@@ -25,7 +25,7 @@ numbers_push (v ∷ vs) w n f =
 module _ (ahead : OrderRow → OrderRow → Bool) where
   numbers_placed : (w : OrderRow) (ws : List OrderRow) → Free w.number ws → Numbers ws → Numbers (placed ahead w ws)
   numbers_placed w [] f n = (tt, tt)
-  numbers_placed w (v ∷ vs) f n = elim (all_pass (ahead w) (v ∷ vs)) as (λ b. Numbers (cond b (w ∷ (v ∷ vs)) (v ∷ placed ahead w vs))) [
+  numbers_placed w (v ∷ vs) f n = elim (list_all (ahead w) (v ∷ vs)) as (λ b. Numbers (cond b (w ∷ (v ∷ vs)) (v ∷ placed ahead w vs))) [
     | true ↦ (f, n)
     | false ↦ (all_placed ahead w (λ x. eqb x.number v.number ≡ false) vs (other_way v.number w.number f.0) n.0, numbers_placed w vs f.1 n.1)
   ]

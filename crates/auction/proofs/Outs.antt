@@ -1,5 +1,5 @@
 -- What is out of an order is on its tickets that are not yet reported.
-use Rattle.std.proofs.Common.{◌≡◌, ℕ, zero, suc, ◌+◌, ◌-◌, ◌<◌, ◌≤◌, min, Bool, true, false, cond, not, ◌&&◌, eqb, List, [], ◌∷◌, ◌++◌, map, length, get_or, set, sum_by, sym, refl, ap, ◌∙◌, subst, inl, inr, arith}
+use Rattle.std.proofs.Common.{◌≡◌, ℕ, zero, suc, ◌+◌, ◌-◌, ◌<◌, ◌≤◌, min, Bool, true, false, cond, not, ◌&&◌, eqb, List, [], ◌∷◌, ◌++◌, map, length, get_or, set, sum_by, sym, refl, ap, ◌∙◌, subst, inl, inr, arith, sum}
 use Rattle.std.specs.List.{AllByRecursion}
 use Rattle.std.proofs.ByRecursion.{All-get_or, All-from_get_or, All-map, All-push, All-weaker}
 use Rattle.std.proofs.lemmas.List.{length-map, get_or-map}
@@ -12,22 +12,24 @@ use Rattle.market.specs.declared.side.Side.{Side}
 use Rattle.market.specs.declared.side.Side.TheVariants.{Buy, Sell}
 use Rattle.market.specs.Markets.{Market}
 use Rattle.market.specs.Rankings.{higher, lower, quote_ahead}
+use Rattle.pricing.specs.Counting.{counting_market}
 use Rattle.pricing.proofs.Levels.{sum_by_map, sum_by_same, sum_by_none}
 use Rattle.orders.specs.declared.order.Order.{Order}
 use Rattle.orders.specs.declared.row.OrderRow.{OrderRow}
 use Rattle.orders.specs.Rows.{empty_row, entered_row, with_cancelled, with_here, with_out, with_settled}
 use Rattle.routing.specs.declared.ticket.Ticket.{Ticket}
-use Rattle.routing.specs.Shares.{Tie, total, start, share, ties, of_order}
-use Rattle.routing.specs.Owed.{executable, owed}
+use Rattle.routing.specs.Shares.{Tie, shares_before, share, ties, of_order}
+use Rattle.routing.specs.Owed.{executable_orders, owed}
 use Rattle.routing.specs.Tickets.{empty_ticket, rests, sizes, ticket_of, tickets}
 use Rattle.routing.proofs.Allots.{walk_allots}
 use Rattle.routing.proofs.Owing.{owed_quoted}
+use Rattle.routing.proofs.Sums.{sum-cons}
 use Rattle.routing.proofs.Tied.{ties_orders, order_tied}
 use Rattle.engine.specs.declared.stage.Stage.TheVariants.{Open}
 use Rattle.engine.specs.Stages.{is_matched}
 use Rattle.engine.specs.Effects.{ahead_on, ranked_bids, ranked_offers, reported}
-use Rattle.auction.specs.Tallies.{Tally, staged, entered, on_number, changed, without_rests, share_of, handed_out, book_by, routed, unrouted, settled, executed}
-use Rattle.auction.specs.Laws.{out_on, settled_row, Settled, OutOnTickets}
+use Rattle.auction.specs.Tallies.{Tally, tally_in_stage, entered, on_number, changed, orders_cancelled, share_of, handed_out, book_by, routed, unrouted, settled, executed}
+use Rattle.auction.specs.Laws.{out_on, settled_row, TicketSettled, OutOnTickets}
 use Rattle.auction.proofs.Routed.{tickets_of, tickets_both}
 use Rattle.auction.proofs.Good.{Numbers, Free, Out}
 use Rattle.auction.proofs.Numbered.{other_way, numbers_ranked}
@@ -56,13 +58,10 @@ module _ (y : Tally) (out : Out y) where
           (λ w. elim (eqb w.number n) as (λ b. (cond b (with_cancelled w) w).number ≡ w.number) [ true ↦ refl | false ↦ refl ])
           (λ w. elim (eqb w.number n) as (λ b. (cond b (with_cancelled w) w).out ≡ w.out) [ true ↦ refl | false ↦ refl ]) y.tickets ws a
 
-  pub finish_out : Out (staged Open y)
-  finish_out = record { buys = out.buys; sells = out.sells }
-
   pub unpriced_out : (m : Market) → Out (unrouted m y)
   unpriced_out m = record { buys = out.buys; sells = out.sells }
 
-  pub abort_out : Out (staged Open (without_rests y))
+  pub abort_out : Out (tally_in_stage Open (orders_cancelled y))
   abort_out = record {
     buys = out_mapped with_cancelled (λ w. refl) (λ w. refl) y.tickets y.buys out.buys;
     sells = out_mapped with_cancelled (λ w. refl) (λ w. refl) y.tickets y.sells out.sells;
@@ -146,7 +145,7 @@ module _ (y : Tally) (out : Out y) (ticket filled : ℕ) (g : ReportGranted y ti
     sells = settled_all y.tickets (ticket - 1) g.within t refl g.unreported filled (is_matched y.stage) y.sells out.sells;
   }
 
-  pub report_settles : Settled t filled y (settled ticket filled t y)
+  pub report_settles : TicketSettled t filled y (settled ticket filled t y)
   report_settles = record {
     buys = plainly_all y.tickets (ticket - 1) g.within t refl g.unreported filled (is_matched y.stage) g.fills y.buys out.buys;
     sells = plainly_all y.tickets (ticket - 1) g.within t refl g.unreported filled (is_matched y.stage) g.fills y.sells out.sells;
@@ -197,7 +196,7 @@ module _ (k : ℕ) (rows : List OrderRow) (quotes : List Quote) where
         ∙ sym (of_order_sum i (ties k (rests rows) (sizes quotes)))
 
 -- the tickets of a side's order have what it gets of the shares that are routed
-module _ (side : Side) (k : ℕ) (ws : List OrderRow) (quotes : List Quote) (numbered : Numbers ws) (enough : k ≤ total (sizes quotes)) where
+module _ (side : Side) (k : ℕ) (ws : List OrderRow) (quotes : List Quote) (numbered : Numbers ws) (enough : k ≤ sum (sizes quotes)) where
   abbrev rows : List OrderRow
   rows = ranked (ahead_on side) ws
 
@@ -207,7 +206,7 @@ module _ (side : Side) (k : ℕ) (ws : List OrderRow) (quotes : List Quote) (num
       let within : i < length (rests rows) = omega (arith, length-map rows (λ v. v.rest)) in
       named_tied k rows quotes (numbers_ranked (ahead_on side) ws numbered) i l
       ∙ order_tied k (rests rows) (sizes quotes) i within enough
-      ∙ ap (λ r. share k r (start (rests rows) i)) (get_or-map (λ v. v.rest) rows i empty_row 0 l)
+      ∙ ap (λ r. share k r (shares_before (rests rows) i)) (get_or-map (λ v. v.rest) rows i empty_row 0 l)
       ∙ walk_allots (ahead_on side) (apart_on side) (λ v. v.rest) rows (sorted_on side ws) (distinct_on side ws numbered) k i empty_row l
       ∙ ap (λ n. min w.rest (k - n)) (sum_ranked (ahead_on side) (λ v. cond (ahead_on side v w) v.rest 0) ws)
 
@@ -233,17 +232,17 @@ apart_too : (bs ss : List OrderRow) → AllByRecursion (λ b. Free b.number ss) 
 apart_too bs ss apart = All-from_get_or (λ s. Free s.number bs) ss empty_row (λ i l. All-from_get_or _ bs empty_row (λ j k.
     other_way _ _ (All-get_or (λ s. eqb s.number (get_or bs j empty_row).number ≡ false) ss i empty_row l (All-get_or (λ b. Free b.number ss) bs j empty_row k apart))))
 
-total_sizes : (xs : List Quote) → total (sizes xs) ≡ sum_by (λ x. x.shares) xs
+total_sizes : (xs : List Quote) → sum (sizes xs) ≡ sum_by (λ x. x.shares) xs
 total_sizes [] = refl
-total_sizes (x ∷ xs) = omega (arith, sum_by-cons (λ v. v.shares) x xs, total_sizes xs)
+total_sizes (x ∷ xs) = omega (arith, sum-cons x.shares (sizes xs), sum_by-cons (λ v. v.shares) x xs, total_sizes xs)
 
 -- the quotes have what is owed to them
 module _ (y : Tally) (m : Market) (p : ℕ) where
-  pub offers_have : owed Buy (book_by y m) p ≤ total (sizes (ranked_offers m))
-  offers_have = omega (arith, total_sizes (ranked_offers m), sum_ranked (quote_ahead lower) (λ x. x.shares) m.offers, owed_quoted Buy p (executable Buy (book_by y m) p) (executable Sell (book_by y m) p) m.offers)
+  pub offers_have : owed Buy (book_by y m) p ≤ sum (sizes (ranked_offers (counting_market m)))
+  offers_have = omega (arith, total_sizes (ranked_offers (counting_market m)), sum_ranked (quote_ahead lower) (λ x. x.shares) (counting_market m).offers, owed_quoted Buy p (executable_orders Buy (book_by y m) p) (executable_orders Sell (book_by y m) p) (counting_market m).offers)
 
-  pub bids_have : owed Sell (book_by y m) p ≤ total (sizes (ranked_bids m))
-  bids_have = omega (arith, total_sizes (ranked_bids m), sum_ranked (quote_ahead higher) (λ x. x.shares) m.bids, owed_quoted Sell p (executable Sell (book_by y m) p) (executable Buy (book_by y m) p) m.bids)
+  pub bids_have : owed Sell (book_by y m) p ≤ sum (sizes (ranked_bids (counting_market m)))
+  bids_have = omega (arith, total_sizes (ranked_bids (counting_market m)), sum_ranked (quote_ahead higher) (λ x. x.shares) (counting_market m).bids, owed_quoted Sell p (executable_orders Sell (book_by y m) p) (executable_orders Buy (book_by y m) p) (counting_market m).bids)
 
 module _ (y : Tally) (out : Out y) (none : y.tickets ≡ []) (buys-numbered : Numbers y.buys) (sells-numbered : Numbers y.sells)
     (apart : AllByRecursion (λ b. Free b.number y.sells) y.buys) (m : Market) (p : ℕ) where
@@ -255,20 +254,20 @@ module _ (y : Tally) (out : Out y) (none : y.tickets ≡ []) (buys-numbered : Nu
 
   buys_out : AllByRecursion (OutOnTickets ts) (handed_out with_out Buy (owed Buy (book_by y m) p) y.buys)
   buys_out = handed_out_lem Buy (owed Buy (book_by y m) p) y.buys (tickets_of Buy y m p) ts (subst (λ us. AllByRecursion (OutOnTickets us) y.buys) none out.buys)
-      (order_shares Buy (owed Buy (book_by y m) p) y.buys (ranked_offers m) buys-numbered (offers_have y m p))
+      (order_shares Buy (owed Buy (book_by y m) p) y.buys (ranked_offers (counting_market m)) buys-numbered (offers_have y m p))
       (All-weaker (λ b. Free b.number y.sells) _ (λ b free. omega (
         arith,
         on_both b.number,
-        none_named (owed Sell (book_by y m) p) (ranked (ahead_on Sell) y.sells) (ranked_bids m) b.number (all_ranked (ahead_on Sell) (λ s. eqb s.number b.number ≡ false) y.sells free),
+        none_named (owed Sell (book_by y m) p) (ranked (ahead_on Sell) y.sells) (ranked_bids (counting_market m)) b.number (all_ranked (ahead_on Sell) (λ s. eqb s.number b.number ≡ false) y.sells free),
       )) y.buys apart)
 
   sells_out : AllByRecursion (OutOnTickets ts) (handed_out with_out Sell (owed Sell (book_by y m) p) y.sells)
   sells_out = handed_out_lem Sell (owed Sell (book_by y m) p) y.sells (tickets_of Sell y m p) ts (subst (λ us. AllByRecursion (OutOnTickets us) y.sells) none out.sells)
-      (order_shares Sell (owed Sell (book_by y m) p) y.sells (ranked_bids m) sells-numbered (bids_have y m p))
+      (order_shares Sell (owed Sell (book_by y m) p) y.sells (ranked_bids (counting_market m)) sells-numbered (bids_have y m p))
       (All-weaker (λ s. Free s.number y.buys) _ (λ s free. omega (
         arith,
         on_both s.number,
-        none_named (owed Buy (book_by y m) p) (ranked (ahead_on Buy) y.buys) (ranked_offers m) s.number (all_ranked (ahead_on Buy) (λ b. eqb b.number s.number ≡ false) y.buys free),
+        none_named (owed Buy (book_by y m) p) (ranked (ahead_on Buy) y.buys) (ranked_offers (counting_market m)) s.number (all_ranked (ahead_on Buy) (λ b. eqb b.number s.number ≡ false) y.buys free),
       )) y.sells (apart_too y.buys y.sells apart))
 
   pub routed_out : (0 < owed Buy (book_by y m) p → owed Sell (book_by y m) p ≡ 0) → (deadline : ℕ) → Out (routed p deadline m y)

@@ -1,4 +1,5 @@
--- The ranking of the orders of a side: its laws, and that orders with different numbers are never level.
+-- The ranking of the orders of a side: its laws, and that orders with different numbers are never
+-- level.
 use Rattle.std.proofs.Common.{◌≡◌, true, false, eqb, List, [], ◌∷◌, ◌∙◌, arith}
 use Rattle.std.proofs.ByRecursion.{All-weaker}
 use Rattle.std.proofs.lemmas.Bool.Decides.{nat_tests}

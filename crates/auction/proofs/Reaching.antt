@@ -1,4 +1,5 @@
--- Shares that are handed out at a price, no more than trade at it, reach only orders that trade at it.
+-- Shares that are handed out at a price, no more than trade at it, reach only orders that trade at
+-- it.
 use Rattle.std.proofs.Common.{◌≡◌, ℕ, ◌+◌, ◌≤◌, min, true, false, cond, leb, List, get_or, Ok, ap, ◌∙◌, inl, inr, arith}
 use Rattle.std.specs.List.{AllByRecursion}
 use Rattle.std.proofs.lemmas.List.{get_or-map}
@@ -12,7 +13,7 @@ use Rattle.pricing.specs.Books.{executable_at}
 use Rattle.orders.specs.declared.row.OrderRow.{OrderRow}
 use Rattle.orders.specs.Rows.{empty_row, is_whole, with_here, with_out}
 use Rattle.orders.specs.Tables.{rest_levels}
-use Rattle.pricing.specs.Closing.{Closing, reference}
+use Rattle.pricing.specs.Outcomes.{IsOutcome, reference}
 use Rattle.pricing.proofs.Choosing.{price_clears}
 use Rattle.routing.specs.Owed.{owed}
 use Rattle.routing.proofs.Owing.{owed_within}
@@ -89,7 +90,7 @@ executed_limits y =
       sells = within_limits with_here (λ w. w.here) (λ k w. omega arith) Sell p n y.sells (omega arith);
     }
 
-pub routed_limits : (y : Tally) (m : Market) (deadline last : ℕ) (x : ℕ × ℕ) → Closing m.halted (book_by y m) last (Ok x) → AtLimits x.0 (λ w. w.out) y (routed x.0 deadline m y)
+pub routed_limits : (y : Tally) (m : Market) (deadline last : ℕ) (x : ℕ × ℕ) → IsOutcome m.halted (book_by y m) last (Ok x) → AtLimits x.0 (λ w. w.out) y (routed x.0 deadline m y)
 routed_limits y m deadline last x closing =
     let clears = price_clears (book_by y m) (reference (book_by y m) last) x.0 closing.1.1.price_is in
     let apart = closing.0.apart in

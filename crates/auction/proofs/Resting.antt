@@ -1,4 +1,5 @@
--- What rests on a side: in its rows and in the tally's orders alike, and after shares were handed out.
+-- What rests on a side: in its rows and in the tally's orders alike, and after shares were handed
+-- out.
 use Rattle.std.proofs.Common.{◌≡◌, ℕ, zero, suc, ◌+◌, ◌-◌, ◌≤◌, min, Bool, true, cond, leb, List, [], ◌∷◌, map, length, replicate, sum_by, sym, refl, ap, ◌∙◌, arith}
 use Rattle.std.specs.List.{AllByRecursion}
 use Rattle.std.proofs.lemmas.List.Sums.{sum_by-cons, sum_by-append, sum_by-le-sum_by}
@@ -10,19 +11,20 @@ use Rattle.market.specs.declared.side.Side.TheVariants.{Buy, Sell}
 use Rattle.pricing.proofs.Levels.{sum_by_same}
 use Rattle.pricing.specs.Books.{executable_at}
 use Rattle.orders.specs.declared.row.OrderRow.{OrderRow}
-use Rattle.orders.specs.Rows.{empty_row, is_whole, with_here}
+use Rattle.orders.specs.Rows.{empty_row, level_of, is_whole, with_here}
 use Rattle.orders.specs.Tables.{available, rest_levels}
 use Rattle.orders.proofs.Conserved.{rests_fall}
 use Rattle.orders.proofs.Rests.{above_cons, above_none, below_cons, below_none}
 use Rattle.engine.specs.Effects.{ahead_on}
+use Rattle.engine.specs.Limits.{order_rows}
 use Rattle.auction.specs.Tallies.{share_of}
 use Rattle.auction.proofs.Good.{Numbers, SideGood}
 use Rattle.auction.proofs.Handing.{Takes, here_takes, handed_mapped}
 
 -- whether an order trades at a price, and its rest if it does
 abbrev pub trades : Side → ℕ → OrderRow → Bool
-trades Buy p w = leb p w.price
-trades Sell p w = leb w.price p
+trades Buy p w = leb p (level_of w).price
+trades Sell p w = leb (level_of w).price p
 
 abbrev pub rest_part : Side → ℕ → OrderRow → ℕ
 rest_part side p w = cond (trades side p w) w.rest 0
@@ -53,9 +55,9 @@ module _ (side : Side) (used : ℕ) (rows ws : List OrderRow) (good : SideGood s
   pub rows_sum : (f : OrderRow → ℕ) → f empty_row ≡ 0 → sum_by f rows ≡ sum_by f ws
   rows_sum f none =
       let rs : List OrderRow = ranked (ahead_on side) ws in
-      let es : List OrderRow = replicate (512 - length rs) empty_row in
+      let es : List OrderRow = replicate (order_rows - length rs) empty_row in
       ap (sum_by f) good.rows_is
-      ∙ omega (arith, sum_by-append f rs es, sum_empty f none (512 - length rs), sum_ranked (ahead_on side) f ws)
+      ∙ omega (arith, sum_by-append f rs es, sum_empty f none (order_rows - length rs), sum_ranked (ahead_on side) f ws)
 
   pub executable_rows : (s : Side) (p : ℕ) → executable_at s p (rest_levels rows) ≡ executable_at s p (rest_levels ws)
   executable_rows s p = executable_sum s p rows ∙ rows_sum (rest_part s p) (part_empty s p) ∙ sym (executable_sum s p ws)

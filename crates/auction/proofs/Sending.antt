@@ -15,20 +15,22 @@ use Rattle.market.specs.declared.side.Side.{Side}
 use Rattle.market.specs.declared.side.Side.TheVariants.{Buy, Sell}
 use Rattle.market.specs.Fits.{quotes_fit}
 use Rattle.market.specs.Markets.{Market, no_quote}
+use Rattle.pricing.specs.Counting.{counting_market}
 use Rattle.pricing.specs.Books.{Book, count_at, executable_at}
 use Rattle.pricing.specs.Candidates.{Clears}
-use Rattle.pricing.specs.Closing.{Closing, best_on, reference, touching}
+use Rattle.pricing.specs.Outcomes.{IsOutcome, best_on, reference, touching}
 use Rattle.pricing.proofs.Choosing.{price_clears}
 use Rattle.pricing.proofs.Levels.{sum_by_map, sum_by_none}
 use Rattle.orders.specs.declared.row.OrderRow.{OrderRow}
 use Rattle.orders.specs.Rows.{empty_row, is_whole, with_out}
 use Rattle.orders.specs.Tables.{rest_levels}
 use Rattle.routing.specs.declared.ticket.Ticket.{Ticket}
-use Rattle.routing.specs.Owed.{reach_part, reach, better, better_part, owed, owed_of}
-use Rattle.routing.proofs.Closing.{sells_owe_none, buys_owe_none}
+use Rattle.routing.specs.Owed.{reach_part, reach, quoted_better, better_part, owed, owed_of}
+use Rattle.routing.proofs.CloseTickets.{sells_owe_none, buys_owe_none}
 use Rattle.routing.proofs.Owing.{one_side_owes, owed_within, counted_lem, beyond_lem}
+use Rattle.routing.proofs.Sums.{shares_before-cons}
 use Rattle.routing.proofs.Totals.{tickets_all}
-use Rattle.routing.specs.Shares.{Tie, start, cell, put, line, lines, ties}
+use Rattle.routing.specs.Shares.{Tie, shares_before, cell, put, line, lines, ties}
 use Rattle.routing.specs.Tickets.{empty_ticket, rests, sizes, ticket_of, tickets}
 use Rattle.routing.proofs.Tied.{ties_orders}
 use Rattle.engine.specs.Effects.{ahead_on, ranked_bids, ranked_offers}
@@ -42,11 +44,12 @@ use Rattle.auction.proofs.Reaching.{executable_left}
 use Rattle.auction.proofs.Taken.{ties_whole}
 use Rattle.auction.proofs.Ticketing.{quote_apart, quote_through, quote_level, total_rests, buys_enough, sells_enough}
 
--- a tie of a line that begins at quote j, with b quoted ahead of it: its quote is one of them, and starts within the first n shares
+-- a tie of a line that begins at quote j, with b quoted ahead of it: its quote is one of them, and
+-- starts within the first n shares
 pub record Within (n j b : ℕ) (ss : List ℕ) (t : Tie) : Type 0 where
   pub least : j ≤ t.quote
   pub most : t.quote - j < length ss
-  pub starts : b + start ss (t.quote - j) < n
+  pub starts : b + shares_before ss (t.quote - j) < n
 
 later : (n j b s : ℕ) (ss : List ℕ) (t : Tie) → Within n (j + 1) (b + s) ss t → Within n j b (s ∷ ss) t
 later n j b s ss t w =
@@ -57,7 +60,7 @@ later n j b s ss t w =
     record {
       least = omega arith;
       most = omega arith;
-      starts = rw e (let h = w.starts in omega arith);
+      starts = rw e (omega (arith, w.starts, shares_before-cons s ss k));
     }
 
 put_within : (n i a r j b s : ℕ) (ss : List ℕ) (c : ℕ) → c ≡ cell n a r b s → (ts : List Tie) → AllByRecursion (Within n j b (s ∷ ss)) ts → AllByRecursion (Within n j b (s ∷ ss)) (put i j c ts)
@@ -83,7 +86,8 @@ good Sell p x = leb p x.price
 sorted_quotes : (side : Side) (xs : List Quote) → Sorted (quote_first side) (ranked (quote_first side) xs)
 sorted_quotes side xs = sorted_ranked (quote_first side) (quote_apart side) (quote_through side) (quote_level side) xs
 
--- what does not go ahead of a quote that is worse than a price is worse too, and adds nothing to what is quoted to it
+-- what does not go ahead of a quote that is worse than a price is worse too, and adds nothing to
+-- what is quoted to it
 worse_later : (side : Side) (p : ℕ) (x y : Quote) → good side p x ≡ false → quote_first side y x ≡ false → reach_part side p y ≡ 0
 worse_later Buy p x y h k = grind (arith, nat_tests)
 worse_later Sell p x y h k = grind (arith, nat_tests)
@@ -102,7 +106,7 @@ better_reaches Sell p x = grind (arith, nat_tests)
 
 -- all that is quoted at a price or better stands before a quote that is worse
 reached_before : (side : Side) (p : ℕ) (xs : List Quote) → Sorted (quote_first side) xs → (k : ℕ) → k < length xs → good side p (get_or xs k no_quote) ≡ false
-    → sum_by (reach_part side p) xs ≤ start (sizes xs) k
+    → sum_by (reach_part side p) xs ≤ shares_before (sizes xs) k
 reached_before side p [] s k l h = absurd (omega arith)
 reached_before side p (x ∷ xs) s zero l h = omega (
   arith,
@@ -110,7 +114,13 @@ reached_before side p (x ∷ xs) s zero l h = omega (
   worse_none side p x h,
   sum_by_none (λ y. quote_first side y x ≡ false) (reach_part side p) (λ y k. worse_later side p x y h k) xs s.0,
 )
-reached_before side p (x ∷ xs) s (suc k) l h = omega (arith, sum_by-cons (reach_part side p) x xs, part_most side p x, reached_before side p xs s.1 k (omega arith) h)
+reached_before side p (x ∷ xs) s (suc k) l h = omega (
+  arith,
+  sum_by-cons (reach_part side p) x xs,
+  shares_before-cons x.shares (sizes xs) k,
+  part_most side p x,
+  reached_before side p xs s.1 k (omega arith) h,
+)
 
 good_price : (side : Side) (p : ℕ) (x : Quote) → good side p x ≡ true → at_or_better side p x.price
 good_price Buy p x h = leb-true x.price p h
@@ -126,7 +136,7 @@ first_up Sell q x y h k = grind (arith, nat_tests)
 
 -- all that is ahead of a quote stands before it
 ahead_before : (side : Side) (xs : List Quote) → Sorted (quote_first side) xs → (k : ℕ) → k < length xs
-    → sum_by (λ y. cond (quote_first side y (get_or xs k no_quote)) y.shares 0) xs ≤ start (sizes xs) k
+    → sum_by (λ y. cond (quote_first side y (get_or xs k no_quote)) y.shares 0) xs ≤ shares_before (sizes xs) k
 ahead_before side [] s k l = absurd (omega arith)
 ahead_before side (x ∷ xs) s zero l = omega (
   arith,
@@ -136,7 +146,13 @@ ahead_before side (x ∷ xs) s zero l = omega (
 )
 ahead_before side (x ∷ xs) s (suc k) l =
     let q : Quote = get_or xs k no_quote in
-    omega (arith, sum_by-cons (λ y. cond (quote_first side y q) y.shares 0) x xs, cond_most (quote_first side x q) x.shares, ahead_before side xs s.1 k (omega arith))
+    omega (
+      arith,
+      sum_by-cons (λ y. cond (quote_first side y q) y.shares 0) x xs,
+      shares_before-cons x.shares (sizes xs) k,
+      cond_most (quote_first side x q) x.shares,
+      ahead_before side xs s.1 k (omega arith),
+    )
   where
     cond_most : (t : Bool) (n : ℕ) → cond t n 0 ≤ n
     cond_most true n = omega arith
@@ -172,7 +188,7 @@ module _ (side : Side) (p n : ℕ) (ws : List OrderRow) (xs : List Quote) (few :
             ∙ at_place (λ y. eqb y.venue x.venue && eqb y.price x.price) quotes t.quote no_quote l (and_from (eqb x.venue x.venue) (eqb x.price x.price) (eq-eqb x.venue x.venue refl) (eq-eqb x.price x.price refl));
         good = elim (cases_Bool (good side p x)) [
           | inl reached ↦ good_price side p x reached
-          | inr worse ↦ absurd (omega (arith, few_ranked, reached_before side p quotes (sorted_quotes side xs) t.quote l worse, subst (λ k. 0 + start (sizes quotes) k < n) e w.starts))
+          | inr worse ↦ absurd (omega (arith, few_ranked, reached_before side p quotes (sorted_quotes side xs) t.quote l worse, subst (λ k. 0 + shares_before (sizes quotes) k < n) e w.starts))
         ];
       }
 
@@ -209,7 +225,7 @@ module _ (side : Side) (p n : ℕ) (ws : List OrderRow) (xs : List Quote) (few :
       same_first side x y r q (eqb-true y.venue x.venue both.0) (eqb-true y.price x.price both.1) q-venue q-price ahead in
       sum_by_map (λ u. cond (eqb u.venue x.venue && eqb u.price x.price) u.shares 0) (ticket_of rows quotes) ts
       ∙ ties_whole here (quote_first side) (λ y. quote_first side y q) (first_up side q) within n (rests rows) (omega (arith, total_rests rows, enough)) quotes
-      (sorted_quotes side xs) (omega (arith, ahead_before side quotes (sorted_quotes side xs) t.quote lq, subst (λ m. 0 + start (sizes quotes) m < n) e w.starts))
+      (sorted_quotes side xs) (omega (arith, ahead_before side quotes (sorted_quotes side xs) t.quote lq, subst (λ m. 0 + shares_before (sizes quotes) m < n) e w.starts))
       ∙ sum_ranked (quote_first side) (λ y. cond (here y) y.shares 0) xs
     where
       no_tie : Tie
@@ -219,7 +235,7 @@ module _ (side : Side) (p n : ℕ) (ws : List OrderRow) (xs : List Quote) (few :
   side_sends = record { each = tickets_send; ranked_quotes = quotes_ranked }
 
   -- where a ticket is at the price itself, more is routed than is quoted better
-  past_better : (k : ℕ) → k < length (tickets n rows quotes) → (get_or (tickets n rows quotes) k empty_ticket).price ≡ p → better side p xs < n
+  past_better : (k : ℕ) → k < length (tickets n rows quotes) → (get_or (tickets n rows quotes) k empty_ticket).price ≡ p → quoted_better side p xs < n
   past_better k lk price =
       let ts : List Tie = ties n (rests rows) (sizes quotes) in
       let l : k < length ts = omega (arith, length-map ts (ticket_of rows quotes)) in
@@ -235,7 +251,7 @@ module _ (side : Side) (p n : ℕ) (ws : List OrderRow) (xs : List Quote) (few :
         sum_ranked (quote_first side) (better_part side p) xs,
         sum_by-le-sum_by (better_part side p) (λ y. cond (quote_first side y q) y.shares 0) quotes (λ y. better_first_of side p q y q-price),
         ahead_before side quotes (sorted_quotes side xs) t.quote lq,
-        subst (λ m. 0 + start (sizes quotes) m < n) e w.starts,
+        subst (λ m. 0 + shares_before (sizes quotes) m < n) e w.starts,
       )
     where
       no_tie : Tie
@@ -245,11 +261,11 @@ module _ (side : Side) (p n : ℕ) (ws : List OrderRow) (xs : List Quote) (few :
       better_first_of Buy p q y h = grind (arith, nat_tests)
       better_first_of Sell p q y h = grind (arith, nat_tests)
 
-owed_reach : (side : Side) (p own other : ℕ) (xs : List Quote) → owed_of (better side p xs) (reach side p xs) own other ≤ reach side p xs
+owed_reach : (side : Side) (p own other : ℕ) (xs : List Quote) → owed_of (quoted_better side p xs) (reach side p xs) own other ≤ reach side p xs
 owed_reach side p own other xs = omega (arith, sum_by-le-sum_by (better_part side p) (reach_part side p) xs (better_reaches side p))
 
 -- by the side that owes, of orders that are whole and have numbers of their own
-module _ (y : Tally) (m : Market) (fit : quotes_fit m ≡ true) (p deadline : ℕ) (apart : touching (best_on Buy (book_by y m)) (best_on Sell (book_by y m)) ≡ false)
+module _ (y : Tally) (m : Market) (fit : quotes_fit (counting_market m) ≡ true) (p deadline : ℕ) (apart : touching (best_on Buy (book_by y m)) (best_on Sell (book_by y m)) ≡ false)
     (clears : Clears (book_by y m) p)
     (buys-whole : AllByRecursion (λ w. is_whole w ≡ true) y.buys) (buys-numbered : Numbers y.buys)
     (sells-whole : AllByRecursion (λ w. is_whole w ≡ true) y.sells) (sells-numbered : Numbers y.sells) where
@@ -260,10 +276,10 @@ module _ (y : Tally) (m : Market) (fit : quotes_fit m ≡ true) (p deadline : �
   after = routed p deadline m y
 
   abbrev buy_tickets : List Ticket
-  buy_tickets = tickets (owed Buy book p) (ranked (ahead_on Buy) y.buys) (ranked_offers m)
+  buy_tickets = tickets (owed Buy book p) (ranked (ahead_on Buy) y.buys) (ranked_offers (counting_market m))
 
   abbrev sell_tickets : List Ticket
-  sell_tickets = tickets (owed Sell book p) (ranked (ahead_on Sell) y.sells) (ranked_bids m)
+  sell_tickets = tickets (owed Sell book p) (ranked (ahead_on Sell) y.sells) (ranked_bids (counting_market m))
 
   -- what each side can execute afterwards
   buys_left : executable_at Buy p (rest_levels after.buys) + owed Buy book p ≡ executable_at Buy p (rest_levels y.buys)
@@ -274,22 +290,22 @@ module _ (y : Tally) (m : Market) (fit : quotes_fit m ≡ true) (p deadline : �
 
   sends_by : (t : Bool) → ltb 0 (owed Buy book p) ≡ t → (ts : List Ticket) → ts ≡ cond t buy_tickets sell_tickets → OneSideSends p y m (record after { tickets = ts })
   sends_by true t ts is =
-      let send = side_sends Buy p (owed Buy book p) y.buys m.offers (owed_reach Buy p _ _ m.offers) (buys_enough y m fit p apart clears) in
+      let send = side_sends Buy p (owed Buy book p) y.buys (counting_market m).offers (owed_reach Buy p _ _ (counting_market m).offers) (buys_enough y m fit p apart clears) in
       inl (
-        subst (SideSends Buy p y.buys m.offers) (sym is) send,
+        subst (SideSends Buy p y.buys (counting_market m).offers) (sym is) send,
         λ a.
             let k = subst (λ us. Any (λ u. u.price ≡ p) us) is a in
-            let past = past_better Buy p (owed Buy book p) y.buys m.offers (owed_reach Buy p _ _ m.offers) (buys_enough y m fit p apart clears) k.0 k.2
+            let past = past_better Buy p (owed Buy book p) y.buys (counting_market m).offers (owed_reach Buy p _ _ (counting_market m).offers) (buys_enough y m fit p apart clears) k.0 k.2
             (ap (λ u. u.price) (get_or_default buy_tickets k.0 empty_ticket k.1 k.2 ∙ k.3) ∙ k.4) in
             omega (arith, (beyond_lem book p).0 past, buys_left, sells_left),
       )
   sends_by false f ts is =
-      let send = side_sends Sell p (owed Sell book p) y.sells m.bids (owed_reach Sell p _ _ m.bids) (sells_enough y m fit p apart clears) in
+      let send = side_sends Sell p (owed Sell book p) y.sells (counting_market m).bids (owed_reach Sell p _ _ (counting_market m).bids) (sells_enough y m fit p apart clears) in
       inr (
-        subst (SideSends Sell p y.sells m.bids) (sym is) send,
+        subst (SideSends Sell p y.sells (counting_market m).bids) (sym is) send,
         λ a.
             let k = subst (λ us. Any (λ u. u.price ≡ p) us) is a in
-            let past = past_better Sell p (owed Sell book p) y.sells m.bids (owed_reach Sell p _ _ m.bids) (sells_enough y m fit p apart clears) k.0 k.2
+            let past = past_better Sell p (owed Sell book p) y.sells (counting_market m).bids (owed_reach Sell p _ _ (counting_market m).bids) (sells_enough y m fit p apart clears) k.0 k.2
             (ap (λ u. u.price) (get_or_default sell_tickets k.0 empty_ticket k.1 k.2 ∙ k.3) ∙ k.4) in
             omega (arith, (beyond_lem book p).1 past, buys_left, sells_left),
       )
@@ -301,12 +317,12 @@ module _ (y : Tally) (m : Market) (fit : quotes_fit m ≡ true) (p deadline : �
   ticketed_by : (t : Bool) → ltb 0 (owed Buy book p) ≡ t → sum_by (λ u. u.shares) (cond t buy_tickets sell_tickets) ≡ owed Buy book p + owed Sell book p
   ticketed_by true t = omega (
     arith,
-    tickets_all (owed Buy book p) (ranked (ahead_on Buy) y.buys) (ranked_offers m) (omega (arith, total_rests (ranked (ahead_on Buy) y.buys), buys_enough y m fit p apart clears)) (offers_have y m p),
+    tickets_all (owed Buy book p) (ranked (ahead_on Buy) y.buys) (ranked_offers (counting_market m)) (omega (arith, total_rests (ranked (ahead_on Buy) y.buys), buys_enough y m fit p apart clears)) (offers_have y m p),
     sells_owe_none book p (one_side_owes book p apart) t,
   )
   ticketed_by false f = omega (
     arith,
-    tickets_all (owed Sell book p) (ranked (ahead_on Sell) y.sells) (ranked_bids m) (omega (arith, total_rests (ranked (ahead_on Sell) y.sells), sells_enough y m fit p apart clears)) (bids_have y m p),
+    tickets_all (owed Sell book p) (ranked (ahead_on Sell) y.sells) (ranked_bids (counting_market m)) (omega (arith, total_rests (ranked (ahead_on Sell) y.sells), sells_enough y m fit p apart clears)) (bids_have y m p),
     buys_owe_none book p (one_side_owes book p apart) f,
   )
 
@@ -319,7 +335,7 @@ pub record Sent (y : Tally) (m : Market) (deadline : ℕ) (x : ℕ × ℕ) : Typ
   pub counted : x.1 ≡ sum_by (λ t. t.shares) (routed x.0 deadline m y).tickets
       + min (executable_at Buy x.0 (rest_levels (routed x.0 deadline m y).buys)) (executable_at Sell x.0 (rest_levels (routed x.0 deadline m y).sells))
 
-pub close_sends : (y : Tally) (m : Market) → quotes_fit m ≡ true → (deadline last : ℕ) (x : ℕ × ℕ) → Closing m.halted (book_by y m) last (Ok x)
+pub close_sends : (y : Tally) (m : Market) → quotes_fit (counting_market m) ≡ true → (deadline last : ℕ) (x : ℕ × ℕ) → IsOutcome m.halted (book_by y m) last (Ok x)
     → AllByRecursion (λ w. is_whole w ≡ true) y.buys → Numbers y.buys → AllByRecursion (λ w. is_whole w ≡ true) y.sells → Numbers y.sells → Sent y m deadline x
 close_sends y m fit deadline last x closing bw bn sw sn =
     let apart = closing.0.apart in

@@ -1,5 +1,5 @@
 -- What ties take of the quotes that pass a test; of better quotes, which rank first, all of it.
-use Rattle.std.proofs.Common.{◌≡◌, ℕ, zero, suc, ◌+◌, ◌<◌, ◌≤◌, Bool, true, false, cond, List, [], ◌∷◌, length, get_or, sum_by, sym, refl, ap, ◌∙◌, inl, inr, arith}
+use Rattle.std.proofs.Common.{◌≡◌, ℕ, zero, suc, ◌+◌, ◌<◌, ◌≤◌, Bool, true, false, cond, List, [], ◌∷◌, length, get_or, sum_by, sym, refl, ap, ◌∙◌, inl, inr, arith, sum}
 use Rattle.std.specs.List.{AllByRecursion}
 use Rattle.std.proofs.ByRecursion.{All-weaker}
 use Rattle.std.proofs.lemmas.List.Sums.{sum_by-cons, sum_by-append}
@@ -7,7 +7,7 @@ use Rattle.std.proofs.lemmas.Bool.{cases_Bool, both_ways, cond-true, cond-false}
 use Rattle.ranking.specs.Ranked.{Sorted}
 use Rattle.market.specs.declared.quote.Quote.{Quote}
 use Rattle.market.specs.Markets.{no_quote}
-use Rattle.routing.specs.Shares.{Tie, total, cell, down, put, line, lines, ties}
+use Rattle.routing.specs.Shares.{Tie, cell, down, put, line, lines, ties}
 use Rattle.routing.specs.Tickets.{sizes}
 use Rattle.routing.proofs.Sums.{down_is}
 
@@ -108,8 +108,9 @@ module _ (passes : Quote → Bool) where
     none_behind : (x y : Quote) → better x ≡ false → ahead y x ≡ false → passes y ≡ false
     none_behind x y f h = not_passes y (elim (cases_Bool (better y)) [ inl t ↦ absurd (both_ways (better x) f (first x y h t)) | inr f' ↦ f' ])
 
-    -- within n shares that are routed, where the orders have as many, each that passes is taken whole
-    taken_whole : (n : ℕ) (rs : List ℕ) → n ≤ total rs → (b : ℕ) (xs : List Quote) → Sorted ahead xs → b + sum_by (λ x. cond (better x) x.shares 0) xs ≤ n
+    -- within n shares that are routed, where the orders have as many, each that passes is taken
+    -- whole
+    taken_whole : (n : ℕ) (rs : List ℕ) → n ≤ sum rs → (b : ℕ) (xs : List Quote) → Sorted ahead xs → b + sum_by (λ x. cond (better x) x.shares 0) xs ≤ n
         → taken n 0 rs b xs ≡ sum_by (λ x. cond (passes x) x.shares 0) xs
     taken_whole n rs enough b [] s le = refl
     taken_whole n rs enough b (x ∷ xs) s le = by_test (taken_whole n rs enough (b + x.shares) xs s.1) (better x) refl
@@ -132,7 +133,7 @@ module _ (passes : Quote → Bool) where
             (not_passes x f, All-weaker (λ y. ahead y x ≡ false) (λ y. passes y ≡ false) (λ y h. none_behind x y f h) xs s.0)
 
     -- so over all ties
-    pub ties_whole : (n : ℕ) (rs : List ℕ) → n ≤ total rs → (xs : List Quote) → Sorted ahead xs → sum_by (λ x. cond (better x) x.shares 0) xs ≤ n
+    pub ties_whole : (n : ℕ) (rs : List ℕ) → n ≤ sum rs → (xs : List Quote) → Sorted ahead xs → sum_by (λ x. cond (better x) x.shares 0) xs ≤ n
         → sum_by (tied xs) (ties n rs (sizes xs)) ≡ sum_by (λ x. cond (passes x) x.shares 0) xs
     ties_whole n rs enough xs s le =
         sum_lines xs n 0 0 rs xs (λ k l. let e : 0 + k ≡ k = omega arith in rw e)

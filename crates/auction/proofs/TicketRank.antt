@@ -10,6 +10,7 @@ use Rattle.market.specs.declared.quote.Quote.{Quote}
 use Rattle.market.specs.declared.side.Side.{Side}
 use Rattle.market.specs.declared.side.Side.TheVariants.{Buy, Sell}
 use Rattle.market.specs.Markets.{Market}
+use Rattle.pricing.specs.Counting.{counting_market}
 use Rattle.orders.specs.declared.row.OrderRow.{OrderRow}
 use Rattle.orders.specs.Rows.{empty_row, with_out}
 use Rattle.routing.specs.declared.ticket.Ticket.{Ticket}
@@ -32,8 +33,8 @@ tickets_new n rows quotes = All-map (λ t. t.reported ≡ false) (ticket_of rows
 
 pub routed_new : (y : Tally) (m : Market) (p deadline : ℕ) → AllByRecursion (λ t. t.reported ≡ false) (routed p deadline m y).tickets
 routed_new y m p deadline = cond_both (ltb 0 (owed Buy (book_by y m) p)) _ _ (AllByRecursion (λ t. t.reported ≡ false))
-    (λ _. tickets_new (owed Buy (book_by y m) p) (ranked (ahead_on Buy) y.buys) (ranked_offers m))
-    (λ _. tickets_new (owed Sell (book_by y m) p) (ranked (ahead_on Sell) y.sells) (ranked_bids m))
+    (λ _. tickets_new (owed Buy (book_by y m) p) (ranked (ahead_on Buy) y.buys) (ranked_offers (counting_market m)))
+    (λ _. tickets_new (owed Sell (book_by y m) p) (ranked (ahead_on Sell) y.sells) (ranked_bids (counting_market m)))
 
 -- an order that an unreported ticket of some shares names has shares on tickets
 module _ (ts : List Ticket) (some : AllByRecursion (λ t. 1 ≤ t.shares) ts) (new : AllByRecursion (λ t. t.reported ≡ false) ts) where

@@ -1,4 +1,5 @@
 pub mod Tallies
+pub mod Posts
 pub mod Histories
 pub mod Laws
 pub mod Runs

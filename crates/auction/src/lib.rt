@@ -1,4 +1,10 @@
+//! The call that venues make, with what holds of it over every run of calls: docs/RULES.md, "The
+//! tally, and the laws over every run".
+
 #![tactic(auto)]
 
-pub mod runs;
-pub mod turns;
+mod runs;
+mod turns;
+
+pub use runs::{call, outstanding};
+pub use turns::{PlayedCall, call_all};

@@ -1,34 +1,30 @@
-// What the engine's benchmark calls. An engine holds enums, which do not cross to C: so each export makes one and brings
-// it to where the call is measured. The benchmark takes off the time of the same export without that call.
+//! What the engine's benchmark calls. An engine holds enums, which do not cross to C: so each export makes one and brings
+//! it to where the call is measured. The benchmark takes off the time of the same export without that call.
 ghost use Rattle.std.specs.Prelude.{◌≡◌, length};
 ghost use Rattle.market.specs.Sides.{side_number};
 ghost use Rattle.market.specs.Venues.{market_in};
 ghost use Rattle.engine.specs.declared.call.Call.TheVariants.{Enter, Close};
-ghost use Rattle.engine.specs.States.{held, SameTables};
-ghost use Rattle.benches.specs.Calls.{lent, number_of, closed_by, quoted_on, market_of, call_with, Brought, Taken, Entered, ClosedSo};
+ghost use Rattle.engine.specs.States.{table_rows, SameTables};
+ghost use Rattle.benches.specs.Calls.{lent, number_of, closed_by, quoted_on, quoted_market, call_with, Brought, Taken, Entered, ClosedSo};
 
-use auction::runs;
-use engine::answer::{Answer, Numbers};
-use engine::call::{Call, Facts};
-use engine::stage::Issue;
-use engine::state::Engine;
-use engine::tables::Tables;
-use market::quote::Quote;
-use market::refusal::Refusal;
-use market::side::Side;
-use market::venues::VenueTable;
-use orders::order::Order;
-use orders::row::OrderRow;
-use routing::ticket::Ticket;
+use engine::{Answer, Call, Engine, Facts, Issue, Numbers, Tables};
+use market::{Quote, Refusal, Side, VenueTable};
+use orders::{Order, OrderRow};
+use routing::Ticket;
 
 /// What a close answers, in numbers: the refusal, or 0 with the others.
 #[repr(C)]
 #[derive(Clone, Copy, Debug, Default, PartialEq, Eq)]
 pub struct Closed {
+    /// The number of the refusal, 0 where the close is granted.
     pub refusal: u32,
+    /// The number of the cause why there is no price, 0 where there is one.
     pub cause: u32,
+    /// The price, in points; 0 where there is none.
     pub price: u32,
+    /// How many shares find both a buyer and a seller at the price.
     pub count: u64,
+    /// How many tickets are written.
     pub tickets: usize,
 }
 
@@ -50,10 +46,10 @@ impl From<Result<Answer, Refusal>> for Closed {
         let numbers = Numbers::from(answer);
         Closed {
             refusal: numbers.refusal,
-            cause: numbers.closing.cause,
-            price: numbers.closing.price,
-            count: numbers.closing.count,
-            tickets: numbers.closing.tickets,
+            cause: numbers.close.cause,
+            price: numbers.close.price,
+            count: numbers.close.count,
+            tickets: numbers.close.tickets,
         }
     }
 }
@@ -63,13 +59,15 @@ fn set_quotes(venues: &mut VenueTable, side: Side, quotes: &[Quote])
     ensures { market_in venues.new ≡ quoted_on (side_number side) quotes.now (market_in venues.old) }
 {
     for quote in quotes {
-        let _ = venues.set(quote.venue, u32::from(side), quote.price, quote.shares);
+        venues
+            .set(quote.venue, u32::from(side), quote.price, quote.shares)
+            .ok();
     }
 }
 
 // A venue table with bids and offers.
 fn venues_with(bids: &[Quote], offers: &[Quote]) -> VenueTable
-    ensures { market_in result ≡ market_of bids.now offers.now }
+    ensures { market_in result ≡ quoted_market bids.now offers.now }
 {
     let mut venues = VenueTable::new();
     set_quotes(&mut venues, Side::Buy, bids);
@@ -99,13 +97,13 @@ fn call_with(place: usize, order: Order) -> Call
 
 // Makes an engine, begins a cycle with the first order, and enters the others.
 fn take_orders(orders: &[Order], venues: &VenueTable, tables: &mut Tables<'_>) -> Engine
-    ensures brought { Brought (market_in venues.now) (held tables.old) orders.now (length orders.now) result (held tables.new) }
+    ensures brought { Brought (market_in venues.now) (table_rows tables.old) orders.now (length orders.now) result (table_rows tables.new) }
     ensures names { SameTables tables.old tables.new }
 {
     let mut engine = Engine::new(Issue::Ordinary);
     // Which call brings an order in is said by its place, in the contract too.
     for (place, order) in orders.iter().enumerate() {
-        let _ = runs::call(&mut engine, call_with(place, *order), venues, tables);
+        auction::call(&mut engine, &call_with(place, *order), venues, tables).ok();
     }
     engine
 }
@@ -117,11 +115,11 @@ fn call_after(
     call: Call,
     tables: &mut Tables<'_>,
 ) -> Result<Answer, Refusal>
-    ensures called { Taken (market_in venues.now) (held tables.old) orders.now call (held tables.new) result }
+    ensures called { Taken (market_in venues.now) (table_rows tables.old) orders.now call (table_rows tables.new) result }
     ensures names { SameTables tables.old tables.new }
 {
     let mut engine = take_orders(orders, venues, tables);
-    runs::call(&mut engine, call, venues, tables)
+    auction::call(&mut engine, &call, venues, tables)
 }
 
 /// C lends each table and each list by itself, so both exports take them one by one.
@@ -138,7 +136,7 @@ pub extern "C" fn bench_enter<'a>(
     orders: &[Order],
     next: &Order,
 ) -> u32
-    ensures { Entered (market_of bids_quoted.now offers_quoted.now) (lent buys.old sells.old bids.old offers.old tickets.old) orders.now (Enter next.now) (lent buys.new sells.new bids.new offers.new tickets.new) result }
+    ensures { Entered (quoted_market bids_quoted.now offers_quoted.now) (lent buys.old sells.old bids.old offers.old tickets.old) orders.now (Enter next.now) (lent buys.new sells.new bids.new offers.new tickets.new) result }
 {
     let venues = venues_with(bids_quoted, offers_quoted);
     let mut tables = Tables {
@@ -166,7 +164,7 @@ pub extern "C" fn bench_close<'a>(
     last_sale: u32,
     closed: &mut Closed,
 )
-    ensures { ClosedSo (market_of bids_quoted.now offers_quoted.now) (lent buys.old sells.old bids.old offers.old tickets.old) orders.now (Close 40000500 last_sale) (lent buys.new sells.new bids.new offers.new tickets.new) closed.new }
+    ensures { ClosedSo (quoted_market bids_quoted.now offers_quoted.now) (lent buys.old sells.old bids.old offers.old tickets.old) orders.now (Close 40000500 last_sale) (lent buys.new sells.new bids.new offers.new tickets.new) closed.new }
 {
     let venues = venues_with(bids_quoted, offers_quoted);
     let mut tables = Tables {

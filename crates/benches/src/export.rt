@@ -1,16 +1,14 @@
-// What the benchmarks call: insertion into a ranked table, and the writing of tickets.
+//! What the benchmarks call: insertion into a ranked table, and the writing of tickets.
 ghost use Rattle.std.specs.Prelude.{◌≡◌, ◌+◌, ◌≤◌, min, ◌++◌, length, take, drop, if◌then◌else◌, nat_lt};
 ghost use Rattle.ranking.specs.Ranked.{placed};
 ghost use Rattle.benches.specs.Rows.{row_ahead};
 ghost use Rattle.routing.specs.Tickets.{Ticketed, TicketedIn};
 
 use crate::row::Row;
-use market::quote::Quote;
-use market::rankings::HigherFirst;
-use orders::row::OrderRow;
-use ranking::seat::seat;
-use routing::ticket::Ticket;
-use routing::tickets::write_tickets;
+use market::{HigherFirst, Quote};
+use orders::OrderRow;
+use ranking::seat;
+use routing::{Ticket, write_tickets};
 
 /// Puts one more entry among the first `used` rows, if a row is free, and says how many entries there are then.
 #[unsafe(no_mangle)]
@@ -18,7 +16,8 @@ pub extern "C" fn insert_row(rows: &mut [Row], used: usize, row: &Row) -> usize
     ensures rows { rows.new ≡ (if nat_lt used (length rows.old) then placed row_ahead row.now (take used rows.old) ++ drop (used + 1) rows.old else rows.old) }
     ensures count { result ≡ min (used + 1) (length rows.old) }
 {
-    if seat::<Row, HigherFirst>(rows, used, *row).is_ok() {
+    if used < rows.len() {
+        seat::<Row, HigherFirst>(rows, used, *row);
         used + 1
     } else {
         rows.len()

@@ -1,3 +1,5 @@
+//! What the benchmarks of tests/ call from outside: insertion, tickets, and the calls of an engine, as C links them.
+
 #![tactic(auto)]
 
 pub mod calls;

@@ -1,3 +1,7 @@
+//! Calls, answers and times of the day in words.
+
 #![tactic(auto)]
 
-pub mod words;
+mod words;
+
+pub use words::{AnswerWords, CallWords, OrderWords, Outcome, TimeOfDay, class_name, side_name};

@@ -1,22 +1,20 @@
-// Calls, answers and times in words.
+//! Times of the day, orders, calls and answers in words, as the record of a desk has them.
 ghost use Rattle.std.specs.Prelude.{◌≡◌, Some};
-ghost use Rattle.call_words.specs.Words.{clock_text, side_word, class_word, order_text, call_text, answer_text, outcome_text};
+ghost use Rattle.call_words.specs.Words.{time_text, side_word, class_word, order_text, call_text, answer_text, outcome_text};
 
-use engine::answer::Answer;
-use engine::call::Call;
-use market::refusal::Refusal;
-use market::side::Side;
-use orders::order::{Class, Order};
-use report::numbers::{Dollars, Grouped};
+use engine::{Answer, Call};
+use market::{Refusal, Side};
+use orders::{Class, Order};
+use report::{Dollars, Grouped};
 use std::fmt;
 
-// A time of the day, from milliseconds since midnight.
+/// A time of the day, from milliseconds since midnight: hours, minutes, seconds and milliseconds.
 #[derive(Clone, Copy, Debug, PartialEq, Eq)]
-pub struct Clock(pub u32);
+pub struct TimeOfDay(pub u32);
 
 #[tactic(auto, using(report::proofs::Filled::filled))]
-impl fmt::Display for Clock {
-    ghost output = { λ time. Some (clock_text time.0) };
+impl fmt::Display for TimeOfDay {
+    ghost output = { λ time. Some (time_text time.0) };
 
     fn fmt<W: fmt::Write>(&self, f: &mut fmt::Formatter<W>) -> fmt::Result {
         let hours = self.0 / 3_600_000;
@@ -27,7 +25,7 @@ impl fmt::Display for Clock {
     }
 }
 
-// A refused order may have any numbers, so names are of numbers.
+/// The word for a side, from its number (1 buy, 2 sell). A refused order may have any numbers, so names are of numbers.
 pub fn side_name(side: u32) -> &'static str
     ensures { result.now ≡ side_word side }
 {
@@ -38,6 +36,7 @@ pub fn side_name(side: u32) -> &'static str
     }
 }
 
+/// The word for a class, from its number (0 displayed, 1 reserve, 2 hidden), which may be any.
 pub fn class_name(class: u32) -> &'static str
     ensures { result.now ≡ class_word class }
 {
@@ -49,6 +48,7 @@ pub fn class_name(class: u32) -> &'static str
     }
 }
 
+/// An order in words: number, side, shares, class, price.
 #[derive(Clone, Copy, Debug, PartialEq, Eq)]
 pub struct OrderWords(pub Order);
 
@@ -65,18 +65,19 @@ impl fmt::Display for OrderWords {
     }
 }
 
+/// A call in words: what it asks, with its time of the day and its numbers.
 #[derive(Clone, Copy, Debug, PartialEq, Eq)]
-pub struct CallWords(pub Call);
+pub struct CallWords<'a>(pub &'a Call);
 
-impl fmt::Display for CallWords {
-    ghost output = { λ call. Some (call_text call.0) };
+impl fmt::Display for CallWords<'_> {
+    ghost output = { λ call. Some (call_text call.0.now) };
 
     fn fmt<W: fmt::Write>(&self, f: &mut fmt::Formatter<W>) -> fmt::Result {
-        match self.0 {
+        match *self.0 {
             Call::Begin { time, order, .. } => {
-                let clock = Clock(time);
+                let at = TimeOfDay(time);
                 let order = OrderWords(order);
-                write!(f, "begin at {clock} with {order}")
+                write!(f, "begin at {at} with {order}")
             }
             Call::Enter { order } => {
                 let order = OrderWords(order);
@@ -84,30 +85,31 @@ impl fmt::Display for CallWords {
             }
             Call::Cancel { number } => write!(f, "cancel order {number}"),
             Call::Close { time, last_sale } => {
-                let clock = Clock(time);
+                let at = TimeOfDay(time);
                 let dollars = Dollars(last_sale);
-                write!(f, "close at {clock}, last sale {dollars}")
+                write!(f, "close at {at}, last sale {dollars}")
             }
             Call::Report { ticket, filled } => {
                 let shares = Grouped(u64::from(filled));
                 write!(f, "report ticket {ticket}, {shares} filled")
             }
             Call::Match { time } => {
-                let clock = Clock(time);
-                write!(f, "match at {clock}")
+                let at = TimeOfDay(time);
+                write!(f, "match at {at}")
             }
             Call::Finish { time } => {
-                let clock = Clock(time);
-                write!(f, "finish at {clock}")
+                let at = TimeOfDay(time);
+                write!(f, "finish at {at}")
             }
             Call::Abort { time } => {
-                let clock = Clock(time);
-                write!(f, "abort at {clock}")
+                let at = TimeOfDay(time);
+                write!(f, "abort at {at}")
             }
         }
     }
 }
 
+/// The answer to a call that is granted, in words.
 #[derive(Clone, Copy, Debug, PartialEq, Eq)]
 pub struct AnswerWords(pub Answer);
 
@@ -143,7 +145,7 @@ impl fmt::Display for AnswerWords {
     }
 }
 
-// What came of a call.
+/// What came of a call: the words of its answer, or the number and the words of its refusal.
 #[derive(Clone, Copy, Debug, PartialEq, Eq)]
 pub struct Outcome(pub Result<Answer, Refusal>);
 

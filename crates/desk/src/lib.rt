@@ -1,4 +1,11 @@
+//! A desk: an engine with its venue table and the memory that it works on, and the depth of a close.
+
 #![tactic(auto)]
 
-pub mod depth;
-pub mod desk;
+mod depth;
+mod desk;
+mod memory;
+
+pub use depth::{Depth, step_above, step_below};
+pub use desk::Desk;
+pub use memory::Memory;

@@ -1,12 +1,13 @@
-// The edges of the acceptance: entering, cancelling, closing.
-use crate::edge::{edge, head};
+//! The edges of the acceptance: entering, cancelling, closing.
+use crate::edge::{edge, edges, head};
 use crate::scenes::{BEGIN, CLOSE, accepting, buy, order};
-use desk::desk::Desk;
-use engine::call::Call;
-use market::refusal::Refusal;
-use market::side::Side;
-use orders::order::Order;
-use std::io;
+use desk::Desk;
+use engine::{Call, DAY_END, ORDER_ROWS};
+use market::{CENT, DOLLAR, FINE_STEP, HIGHEST_PRICE, LOWEST_PRICE, MOST_SHARES, Refusal, Side};
+use orders::Order;
+
+// The number of the order that comes after a full side of buys: orders 1 and 2 are there, 1 on this side.
+const AFTER_FULL: u32 = ORDER_ROWS as u32 + 2;
 
 // The order that an edge enters, where nothing else is said.
 fn third() -> Order {
@@ -15,6 +16,21 @@ fn third() -> Order {
 
 fn enter(order: Order) -> Call {
     Call::Enter { order }
+}
+
+// The third order with another number.
+fn numbered(number: u32) -> Call {
+    enter(Order { number, ..third() })
+}
+
+// The third order with another side, by its number.
+fn on_side(side: u32) -> Call {
+    enter(Order { side, ..third() })
+}
+
+// The third order with another class, by its number.
+fn in_class(class: u32) -> Call {
+    enter(Order { class, ..third() })
 }
 
 // The third order with another price.
@@ -27,161 +43,142 @@ fn with_shares(shares: u32) -> Call {
     enter(Order { shares, ..third() })
 }
 
-fn numbers(rt: &HostRuntime) -> io::Result<()> {
-    let desk = accepting();
+fn forms(rt: &HostRuntime, desk: &Desk) -> anyhow::Result<()> {
     head(rt, Refusal::OrderForm)?;
-    let last = Order {
-        number: 4_294_967_295,
-        ..third()
-    };
-    let none = Order {
-        number: 0,
-        ..third()
-    };
-    edge(rt, &desk, "order 4,294,967,295", enter(last))?;
-    edge(rt, &desk, "order 0", enter(none))?;
-    edge(rt, &desk, "side 2", enter(Order { side: 2, ..third() }))?;
-    edge(rt, &desk, "side 3", enter(Order { side: 3, ..third() }))?;
-    edge(rt, &desk, "side 0", enter(Order { side: 0, ..third() }))?;
-    edge(
+    edges(
         rt,
-        &desk,
-        "class 2",
-        enter(Order {
-            class: 2,
-            ..third()
-        }),
-    )?;
-    edge(
-        rt,
-        &desk,
-        "class 3",
-        enter(Order {
-            class: 3,
-            ..third()
-        }),
-    )?;
-    edge(rt, &desk, "1 share", with_shares(1))?;
-    edge(rt, &desk, "0 shares", with_shares(0))?;
-    edge(rt, &desk, "1,000,000 shares", with_shares(1_000_000))?;
-    edge(rt, &desk, "1,000,001 shares", with_shares(1_000_001))
+        desk,
+        &[
+            ("order 4,294,967,295", numbered(u32::MAX)),
+            ("order 0", numbered(0)),
+            ("side 2", on_side(2)),
+            ("side 3", on_side(3)),
+            ("side 0", on_side(0)),
+            ("class 2", in_class(2)),
+            ("class 3", in_class(3)),
+            ("1 share", with_shares(1)),
+            ("0 shares", with_shares(0)),
+            ("1,000,000 shares", with_shares(MOST_SHARES)),
+            ("1,000,001 shares", with_shares(MOST_SHARES + 1)),
+        ],
+    )
 }
 
-fn prices(rt: &HostRuntime) -> io::Result<()> {
-    let desk = accepting();
-    edge(rt, &desk, "at 2 points", at(2))?;
-    edge(rt, &desk, "at 1 point", at(1))?;
-    edge(rt, &desk, "at 0 points", at(0))?;
-    edge(rt, &desk, "at 19,998 points", at(19_998))?;
-    edge(rt, &desk, "at 19,999 points", at(19_999))?;
-    edge(rt, &desk, "at 20,000 points", at(20_000))?;
-    edge(rt, &desk, "at 20,002 points", at(20_002))?;
-    edge(rt, &desk, "at 20,200 points", at(20_200))?;
-    edge(rt, &desk, "at 4,000,000,000 points", at(4_000_000_000))?;
-    edge(rt, &desk, "at 4,000,000,200 points", at(4_000_000_200))
+fn prices(rt: &HostRuntime, desk: &Desk) -> anyhow::Result<()> {
+    edges(
+        rt,
+        desk,
+        &[
+            ("at 2 points", at(LOWEST_PRICE)),
+            ("at 1 point", at(LOWEST_PRICE - 1)),
+            ("at 0 points", at(0)),
+            ("at 19,998 points", at(DOLLAR - FINE_STEP)),
+            ("at 19,999 points", at(DOLLAR - 1)),
+            ("at 20,000 points", at(DOLLAR)),
+            ("at 20,002 points", at(DOLLAR + FINE_STEP)),
+            ("at 20,200 points", at(DOLLAR + CENT)),
+            ("at 4,000,000,000 points", at(HIGHEST_PRICE)),
+            ("at 4,000,000,200 points", at(HIGHEST_PRICE + CENT)),
+        ],
+    )
 }
 
 // A desk whose buys fill all rows but some.
-fn filled(free: u32) -> Desk {
-    let mut desk = accepting();
-    // Orders 1 and 2 are there, 1 on this side.
-    for number in 3..514_u32.saturating_sub(free) {
-        let _ = desk.call(enter(Order { number, ..third() }));
+fn filled(free: u32) -> Result<Desk, Refusal> {
+    let mut desk = accepting()?;
+    for number in 3..AFTER_FULL.saturating_sub(free) {
+        desk.call(numbered(number))?;
     }
-    desk
+    Ok(desk)
 }
 
-fn room(rt: &HostRuntime) -> io::Result<()> {
-    let desk = accepting();
-    let on_buys = Order {
-        number: 1,
-        ..third()
-    };
-    let on_sells = Order {
-        number: 2,
-        ..third()
-    };
-    let last = Order {
-        number: 514,
-        ..third()
-    };
-    let other = Order {
-        number: 514,
-        side: 2,
-        ..third()
-    };
+fn room(rt: &HostRuntime, desk: &Desk) -> anyhow::Result<()> {
     head(rt, Refusal::NumberTaken)?;
-    edge(rt, &desk, "a number on neither side", enter(third()))?;
-    edge(rt, &desk, "a number on the buys", enter(on_buys))?;
-    edge(rt, &desk, "a number on the sells", enter(on_sells))?;
+    edges(
+        rt,
+        desk,
+        &[
+            ("a number on neither side", enter(third())),
+            ("a number on the buys", numbered(1)),
+            ("a number on the sells", numbered(2)),
+        ],
+    )?;
     head(rt, Refusal::SideFull)?;
-    edge(rt, &filled(1), "the 512th buy", enter(last))?;
-    edge(rt, &filled(0), "the 513th buy", enter(last))?;
-    edge(rt, &filled(0), "a sell beside 512 buys", enter(other))
+    let sell = Order {
+        number: AFTER_FULL,
+        side: u32::from(Side::Sell),
+        ..third()
+    };
+    edge(rt, &filled(1)?, "the 512th buy", &numbered(AFTER_FULL))?;
+    let full = filled(0)?;
+    edge(rt, &full, "the 513th buy", &numbered(AFTER_FULL))?;
+    edge(rt, &full, "a sell beside 512 buys", &enter(sell))
 }
 
-fn cancelling(rt: &HostRuntime) -> io::Result<()> {
-    let desk = accepting();
-    let mut once = accepting();
-    let _ = once.call(Call::Cancel { number: 1 });
+fn cancel(number: u32) -> Call {
+    Call::Cancel { number }
+}
+
+fn cancelling(rt: &HostRuntime, desk: &Desk) -> anyhow::Result<()> {
     head(rt, Refusal::UnknownOrder)?;
-    edge(rt, &desk, "cancel order 2", Call::Cancel { number: 2 })?;
-    edge(rt, &desk, "cancel order 3", Call::Cancel { number: 3 })?;
-    edge(rt, &desk, "cancel order 0", Call::Cancel { number: 0 })?;
+    edges(
+        rt,
+        desk,
+        &[
+            ("cancel order 2", cancel(2)),
+            ("cancel order 3", cancel(3)),
+            ("cancel order 0", cancel(0)),
+        ],
+    )?;
     head(rt, Refusal::NoRest)?;
-    edge(rt, &desk, "cancel order 1", Call::Cancel { number: 1 })?;
-    edge(rt, &once, "cancel it again", Call::Cancel { number: 1 })?;
-    edge(rt, &once, "enter its number again", enter(buy()))
+    edge(rt, desk, "cancel order 1", &cancel(1))?;
+    let mut once = accepting()?;
+    once.call(cancel(1))?;
+    edge(rt, &once, "cancel it again", &cancel(1))?;
+    edge(rt, &once, "enter its number again", &enter(buy()))
 }
 
 fn close_by(time: u32, last_sale: u32) -> Call {
     Call::Close { time, last_sale }
 }
 
-fn closing(rt: &HostRuntime) -> io::Result<()> {
-    let desk = accepting();
-    head(rt, Refusal::CloseEarly)?;
-    edge(rt, &desk, "close 500 after the begin", close_by(CLOSE, 0))?;
-    edge(
-        rt,
-        &desk,
-        "close 499 after the begin",
-        close_by(CLOSE - 1, 0),
-    )?;
-    head(rt, Refusal::LastSale)?;
-    edge(
-        rt,
-        &desk,
-        "a last sale of 4,000,000,000",
-        close_by(CLOSE, 4_000_000_000),
-    )?;
-    edge(
-        rt,
-        &desk,
-        "a last sale of 4,000,000,001",
-        close_by(CLOSE, 4_000_000_001),
-    )?;
-    head(rt, Refusal::TimeRange)?;
-    edge(
-        rt,
-        &desk,
-        "abort at the time of the begin",
-        Call::Abort { time: BEGIN },
-    )?;
-    edge(
-        rt,
-        &desk,
-        "abort a millisecond before",
-        Call::Abort { time: BEGIN - 1 },
-    )?;
-    edge(rt, &desk, "close at 23:59:59.999", close_by(86_399_999, 0))?;
-    edge(rt, &desk, "close at midnight", close_by(86_400_000, 0))
+fn abort(time: u32) -> Call {
+    Call::Abort { time }
 }
 
-pub fn play(rt: &HostRuntime) -> io::Result<()> {
-    numbers(rt)?;
-    prices(rt)?;
-    room(rt)?;
-    cancelling(rt)?;
-    closing(rt)
+fn closing(rt: &HostRuntime, desk: &Desk) -> anyhow::Result<()> {
+    head(rt, Refusal::CloseEarly)?;
+    edge(rt, desk, "close 500 after the begin", &close_by(CLOSE, 0))?;
+    edge(
+        rt,
+        desk,
+        "close 499 after the begin",
+        &close_by(CLOSE - 1, 0),
+    )?;
+    head(rt, Refusal::LastSale)?;
+    let highest = close_by(CLOSE, HIGHEST_PRICE);
+    let higher = close_by(CLOSE, HIGHEST_PRICE + 1);
+    edge(rt, desk, "a last sale of 4,000,000,000", &highest)?;
+    edge(rt, desk, "a last sale of 4,000,000,001", &higher)?;
+    head(rt, Refusal::TimeRange)?;
+    edges(
+        rt,
+        desk,
+        &[
+            ("abort at the time of the begin", abort(BEGIN)),
+            ("abort a millisecond before", abort(BEGIN - 1)),
+            ("close at 23:59:59.999", close_by(DAY_END, 0)),
+            ("close at midnight", close_by(DAY_END + 1, 0)),
+        ],
+    )
+}
+
+/// Plays the edges of the acceptance.
+pub fn play(rt: &HostRuntime) -> anyhow::Result<()> {
+    let desk = accepting()?;
+    forms(rt, &desk)?;
+    prices(rt, &desk)?;
+    room(rt, &desk)?;
+    cancelling(rt, &desk)?;
+    closing(rt, &desk)
 }

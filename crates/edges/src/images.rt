@@ -1,23 +1,35 @@
-// The edges of an image, priced and as a source of quotes.
-ghost use Rattle.std.specs.Prelude.{◌≤◌};
+//! The edges of an image, priced and as a source of quotes.
+ghost use Rattle.std.specs.Prelude.{◌≤◌, ◌+◌, ◌*◌};
+ghost use Rattle.market.specs.Limits.{most_orders};
 
-use crate::edge::{head, print_edge};
+use crate::edge::{head, print_edge, stands};
 use crate::scenes::{accepting, begin, buy, close, open};
-use auction::runs::call;
-use desk::desk::Desk;
-use engine::call::Call;
-use engine::tables::Tables;
-use image::export::snap_price_image;
-use image::image::BookImage;
-use market::refusal::Refusal;
+use auction::call;
+use desk::{Desk, lend};
+use engine::{Call, Tables};
+use image::{ANSWER, BookImage, snap_price_image};
+use market::{CENT, HIGHEST_PRICE, LOWEST_PRICE, MOST_ORDERS, MOST_QUOTES, MOST_SHARES, Refusal};
 use std::io;
 use std::iter::repeat;
 
-// The longest image that is played: 513 entries in one list.
-const ROOM: usize = 16 + 8 * 513;
+// The bytes of the four sizes at the head of an image, and of the price and the shares of an entry.
+const HEAD: usize = 16;
+
+const ENTRY_BYTES: usize = 8;
+
+// One entry more than a side may have.
+const TOO_MANY: usize = MOST_ORDERS + 1;
+
+// The longest image that is played: one entry too many in one list.
+const ROOM: usize = HEAD + ENTRY_BYTES * TOO_MANY;
+
+// The most entries of a list of orders, and of a list of quotes, as an image writes them.
+const ORDERS_MOST: u32 = MOST_ORDERS as u32;
+
+const QUOTES_MOST: u32 = MOST_QUOTES as u32;
 
 // How many entries each list has.
-#[derive(Clone, Copy, Debug, PartialEq, Eq)]
+#[derive(Clone, Copy)]
 struct Sizes {
     buys: u32,
     sells: u32,
@@ -26,7 +38,7 @@ struct Sizes {
 }
 
 // What every entry has.
-#[derive(Clone, Copy, Debug, PartialEq, Eq)]
+#[derive(Clone, Copy)]
 struct Entry {
     price: u32,
     shares: u32,
@@ -56,6 +68,22 @@ const ENTRY: Entry = Entry {
     shares: 100,
 };
 
+fn with_buys(buys: u32) -> Sizes {
+    Sizes { buys, ..NONE }
+}
+
+fn with_sells(sells: u32) -> Sizes {
+    Sizes { sells, ..NONE }
+}
+
+fn with_bids(bids: u32) -> Sizes {
+    Sizes { bids, ..NONE }
+}
+
+fn with_offers(offers: u32) -> Sizes {
+    Sizes { offers, ..NONE }
+}
+
 fn with_shares(shares: u32) -> Entry {
     Entry { shares, ..ENTRY }
 }
@@ -64,18 +92,25 @@ fn at(price: u32) -> Entry {
     Entry { price, ..ENTRY }
 }
 
+// The entries of a list, one more than a side may have at most.
+fn entries_of(size: u32) -> usize
+    ensures { result ≤ most_orders + 1 }
+{
+    (size as usize).min(TOO_MANY)
+}
+
 impl Sizes {
-    // How many entries there are, at most 600 of each kind.
+    // How many entries there are.
     fn entries(self) -> usize
-        ensures { result ≤ 2400 }
+        ensures { result ≤ 4 * (most_orders + 1) }
     {
-        let orders = self.buys.min(600) + self.sells.min(600);
-        (orders + self.bids.min(600) + self.offers.min(600)) as usize
+        let orders = entries_of(self.buys) + entries_of(self.sells);
+        orders + entries_of(self.bids) + entries_of(self.offers)
     }
 
     // How long an image of these sizes is.
     fn length(self) -> usize {
-        16 + 8 * self.entries()
+        HEAD + ENTRY_BYTES * self.entries()
     }
 }
 
@@ -99,7 +134,7 @@ fn first(bytes: &[u8; ROOM], length: usize) -> &[u8] {
     &bytes[..length.min(ROOM)]
 }
 
-// Prices some bytes into an output of some length.
+// Prices some bytes into an output of some length, one more than an answer has at most.
 fn price(
     rt: &HostRuntime,
     what: &str,
@@ -107,147 +142,139 @@ fn price(
     last_sale: u32,
     length: usize,
 ) -> io::Result<()> {
-    let mut out = [7; 17];
-    let refusal = snap_price_image(bytes, last_sale, &mut out[..length.min(17)]);
+    let before = [7; ANSWER + 1];
+    let mut out = before;
+    let refusal = snap_price_image(bytes, last_sale, &mut out[..length.min(ANSWER + 1)]);
     if refusal == 0 {
         return println!(rt; "  {what}: priced");
     }
-    let stands = if out == [7; 17] {
-        "all stands"
-    } else {
-        "SOMETHING MOVED"
-    };
+    let stands = stands(out == before);
     println!(rt; "  {what}: {refusal}, {stands}")
 }
 
-fn outputs(rt: &HostRuntime) -> io::Result<()> {
+// Prices an image with a buy and a sell, with another last sale or another length of the output.
+fn price_orders(rt: &HostRuntime, what: &str, last_sale: u32, length: usize) -> io::Result<()> {
     let bytes = image(ORDERS, ENTRY);
-    head(rt, Refusal::OutputLength)?;
-    price(rt, "an output of 16 bytes", first(&bytes, 32), 0, 16)?;
-    price(rt, "an output of 15 bytes", first(&bytes, 32), 0, 15)?;
-    price(rt, "an output of 17 bytes", first(&bytes, 32), 0, 17)
+    price(rt, what, first(&bytes, ORDERS.length()), last_sale, length)
 }
 
-// An image of some sizes, and of some length.
+fn outputs(rt: &HostRuntime) -> io::Result<()> {
+    head(rt, Refusal::OutputLength)?;
+    price_orders(rt, "an output of 16 bytes", 0, ANSWER)?;
+    price_orders(rt, "an output of 15 bytes", 0, ANSWER - 1)?;
+    price_orders(rt, "an output of 17 bytes", 0, ANSWER + 1)
+}
+
+// Prices an image of some sizes, and of some length.
 fn laid(rt: &HostRuntime, what: &str, sizes: Sizes, entry: Entry, length: usize) -> io::Result<()> {
     let bytes = image(sizes, entry);
-    price(rt, what, first(&bytes, length), 0, 16)
-}
-
-// An image of some sizes, and of just the length that they ask for.
-fn exact(rt: &HostRuntime, what: &str, sizes: Sizes, entry: Entry) -> io::Result<()> {
-    laid(rt, what, sizes, entry, sizes.length())
+    price(rt, what, first(&bytes, length), 0, ANSWER)
 }
 
 fn layouts(rt: &HostRuntime) -> io::Result<()> {
     head(rt, Refusal::ImageLayout)?;
-    laid(rt, "16 bytes, no entry", NONE, ENTRY, 16)?;
-    laid(rt, "15 bytes", NONE, ENTRY, 15)?;
-    laid(rt, "17 bytes, no entry", NONE, ENTRY, 17)?;
-    exact(rt, "512 buys", Sizes { buys: 512, ..NONE }, ENTRY)?;
-    exact(rt, "513 buys", Sizes { buys: 513, ..NONE }, ENTRY)?;
-    exact(rt, "512 sells", Sizes { sells: 512, ..NONE }, ENTRY)?;
-    exact(rt, "513 sells", Sizes { sells: 513, ..NONE }, ENTRY)?;
-    exact(rt, "32 bids", Sizes { bids: 32, ..NONE }, ENTRY)?;
-    exact(rt, "33 bids", Sizes { bids: 33, ..NONE }, ENTRY)?;
-    exact(rt, "32 offers", Sizes { offers: 32, ..NONE }, ENTRY)?;
-    exact(rt, "33 offers", Sizes { offers: 33, ..NONE }, ENTRY)
+    laid(rt, "16 bytes, no entry", NONE, ENTRY, HEAD)?;
+    laid(rt, "15 bytes", NONE, ENTRY, HEAD - 1)?;
+    laid(rt, "17 bytes, no entry", NONE, ENTRY, HEAD + 1)?;
+    let sizes = [
+        ("512 buys", with_buys(ORDERS_MOST)),
+        ("513 buys", with_buys(ORDERS_MOST + 1)),
+        ("512 sells", with_sells(ORDERS_MOST)),
+        ("513 sells", with_sells(ORDERS_MOST + 1)),
+        ("32 bids", with_bids(QUOTES_MOST)),
+        ("33 bids", with_bids(QUOTES_MOST + 1)),
+        ("32 offers", with_offers(QUOTES_MOST)),
+        ("33 offers", with_offers(QUOTES_MOST + 1)),
+    ];
+    for (what, sizes) in sizes {
+        laid(rt, what, sizes, ENTRY, sizes.length())?;
+    }
+    Ok(())
 }
 
 // What an entry may have, as orders or as quotes.
 fn entries(rt: &HostRuntime, sizes: Sizes) -> io::Result<()> {
-    exact(rt, "1 share", sizes, with_shares(1))?;
-    exact(rt, "0 shares", sizes, with_shares(0))?;
-    exact(rt, "1,000,000 shares", sizes, with_shares(1_000_000))?;
-    exact(rt, "1,000,001 shares", sizes, with_shares(1_000_001))?;
-    exact(rt, "at 2 points", sizes, at(2))?;
-    exact(rt, "at 1 point", sizes, at(1))?;
-    exact(rt, "at 4,000,000,000 points", sizes, at(4_000_000_000))?;
-    exact(rt, "at 4,000,000,200 points", sizes, at(4_000_000_200))
+    let entries = [
+        ("1 share", with_shares(1)),
+        ("0 shares", with_shares(0)),
+        ("1,000,000 shares", with_shares(MOST_SHARES)),
+        ("1,000,001 shares", with_shares(MOST_SHARES + 1)),
+        ("at 2 points", at(LOWEST_PRICE)),
+        ("at 1 point", at(LOWEST_PRICE - 1)),
+        ("at 4,000,000,000 points", at(HIGHEST_PRICE)),
+        ("at 4,000,000,200 points", at(HIGHEST_PRICE + CENT)),
+    ];
+    for (what, entry) in entries {
+        laid(rt, what, sizes, entry, sizes.length())?;
+    }
+    Ok(())
 }
 
 fn sales(rt: &HostRuntime) -> io::Result<()> {
-    let bytes = image(ORDERS, ENTRY);
+    let highest = HIGHEST_PRICE;
+    let higher = HIGHEST_PRICE + 1;
     head(rt, Refusal::LastSale)?;
-    price(
+    price_orders(
         rt,
         "an image, a last sale of 4,000,000,000",
-        first(&bytes, 32),
-        4_000_000_000,
-        16,
+        highest,
+        ANSWER,
     )?;
-    price(
-        rt,
-        "an image, a last sale of 4,000,000,001",
-        first(&bytes, 32),
-        4_000_000_001,
-        16,
-    )
+    price_orders(rt, "an image, a last sale of 4,000,000,001", higher, ANSWER)
 }
 
 // A call on the quotes of an image.
-fn sourced(
+fn play_source(
     rt: &HostRuntime,
     what: &str,
     scene: &Desk,
     asked: Call,
     entry: Entry,
-) -> io::Result<()> {
+) -> anyhow::Result<()> {
     let bytes = image(QUOTES, entry);
-    let Ok(book) = BookImage::read(first(&bytes, 32)) else {
-        return println!(rt; "  {what}: no image");
-    };
-    let mut desk = *scene;
-    let mut tables = Tables {
-        buys: &mut desk.buys,
-        sells: &mut desk.sells,
-        bids: &mut desk.bids,
-        offers: &mut desk.offers,
-        tickets: &mut desk.tickets,
-    };
-    let answer = call(&mut desk.engine, asked, &book, &mut tables);
-    print_edge(rt, what, answer, desk == *scene)
+    let book = BookImage::read(first(&bytes, QUOTES.length()))?;
+    let mut desk = scene.clone()?;
+    let mut tables = lend!(desk.memory);
+    let answer = call(&mut desk.engine, &asked, &book, &mut tables);
+    print_edge(rt, what, answer, desk == *scene)?;
+    Ok(())
 }
 
-fn sources(rt: &HostRuntime) -> io::Result<()> {
-    sourced(
-        rt,
-        "begin on quotes of 1,000,000 shares",
-        &open(),
-        begin(buy()),
-        with_shares(1_000_000),
-    )?;
-    sourced(
-        rt,
-        "begin on quotes of 1,000,001 shares",
-        &open(),
-        begin(buy()),
-        with_shares(1_000_001),
-    )?;
-    sourced(
-        rt,
-        "begin on quotes at no permitted price",
-        &open(),
-        begin(buy()),
-        at(200_100),
-    )?;
-    sourced(
-        rt,
-        "close on quotes of 1,000,000 shares",
-        &accepting(),
-        close(),
-        with_shares(1_000_000),
-    )?;
-    sourced(
-        rt,
-        "close on quotes of 1,000,001 shares",
-        &accepting(),
-        close(),
-        with_shares(1_000_001),
-    )
+fn sources(rt: &HostRuntime) -> anyhow::Result<()> {
+    let open = open()?;
+    let begins = [
+        (
+            "begin on quotes of 1,000,000 shares",
+            with_shares(MOST_SHARES),
+        ),
+        (
+            "begin on quotes of 1,000,001 shares",
+            with_shares(MOST_SHARES + 1),
+        ),
+        ("begin on quotes at no permitted price", at(200_100)),
+    ];
+    for (what, entry) in begins {
+        play_source(rt, what, &open, begin(buy()), entry)?;
+    }
+    let accepting = accepting()?;
+    let closes = [
+        (
+            "close on quotes of 1,000,000 shares",
+            with_shares(MOST_SHARES),
+        ),
+        (
+            "close on quotes of 1,000,001 shares",
+            with_shares(MOST_SHARES + 1),
+        ),
+    ];
+    for (what, entry) in closes {
+        play_source(rt, what, &accepting, close(), entry)?;
+    }
+    Ok(())
 }
 
-pub fn play(rt: &HostRuntime) -> io::Result<()> {
+/// Plays the edges of an image.
+pub fn play(rt: &HostRuntime) -> anyhow::Result<()> {
     outputs(rt)?;
     layouts(rt)?;
     head(rt, Refusal::ImageOrder)?;

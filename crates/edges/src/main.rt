@@ -1,7 +1,8 @@
+//! Plays each refusal at its edge: the last value that is taken and the first that is refused, and whether a refused call left
+//! all as it stood. Then the ninth worked book to its end, with its ticket reported in time and late.
+
 #![tactic(auto)]
 
-// Plays each refusal at its edge: the last value that is taken and the first that is refused, and whether a refused call left
-// all as it stood. Then the ninth worked book to its end, with its ticket reported in time and late.
 mod accepting;
 mod edge;
 mod images;
@@ -14,9 +15,7 @@ mod starting;
 mod starts;
 mod venues;
 
-use std::io;
-
-fn main(rt: HostRuntime) -> io::Result<()> {
+fn main(rt: HostRuntime) -> anyhow::Result<()> {
     println!(rt; "Each refusal at its edge; a refused call says whether all stands as it stood")?;
     sizes::play(&rt)?;
     stages::play(&rt)?;

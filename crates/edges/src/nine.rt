@@ -1,9 +1,9 @@
-// The ninth worked book to its end: 100 shares are matched here, 150 go out by a ticket.
+//! The ninth worked book to its end: 100 shares are matched here, 150 go out by a ticket.
 use crate::edge::tell;
 use crate::scenes::{DEADLINE, begin, buy, close, open, sell};
-use desk::desk::Desk;
-use engine::call::Call;
-use orders::row::OrderRow;
+use desk::Desk;
+use engine::Call;
+use orders::OrderRow;
 use std::io;
 
 fn print_row(rt: &HostRuntime, side: &str, row: OrderRow) -> io::Result<()> {
@@ -17,26 +17,24 @@ fn print_row(rt: &HostRuntime, side: &str, row: OrderRow) -> io::Result<()> {
 }
 
 fn print_rows(rt: &HostRuntime, desk: &Desk) -> io::Result<()> {
-    print_row(rt, "buy", desk.buys[0])?;
-    print_row(rt, "sell", desk.sells[0])
+    print_row(rt, "buy", desk.memory.buys[0])?;
+    print_row(rt, "sell", desk.memory.sells[0])
 }
 
 // From the begin to the close.
-fn priced(rt: &HostRuntime) -> io::Result<Desk> {
-    let mut desk = open();
-    tell(
-        rt,
-        &mut desk,
-        "begin with a buy of 300 at 200,400",
-        begin(buy()),
-    )?;
-    tell(
-        rt,
-        &mut desk,
-        "enter a sell of 100 at 200,400",
-        Call::Enter { order: sell() },
-    )?;
-    tell(rt, &mut desk, "close", close())?;
+fn priced(rt: &HostRuntime) -> anyhow::Result<Desk> {
+    let mut desk = open()?;
+    let calls = [
+        ("begin with a buy of 300 at 200,400", begin(buy())),
+        (
+            "enter a sell of 100 at 200,400",
+            Call::Enter { order: sell() },
+        ),
+        ("close", close()),
+    ];
+    for (what, call) in calls {
+        tell(rt, &mut desk, what, call)?;
+    }
     print_rows(rt, &desk)?;
     Ok(desk)
 }
@@ -46,26 +44,29 @@ const REPORT: Call = Call::Report {
     filled: 120,
 };
 
-pub fn reported(rt: &HostRuntime) -> io::Result<()> {
+fn match_at(time: u32) -> Call {
+    Call::Match { time }
+}
+
+/// The ticket is reported before the match.
+pub fn reported(rt: &HostRuntime) -> anyhow::Result<()> {
     println!(rt; "")?;
     println!(rt; "Book nine, its ticket reported before the match")?;
     let mut desk = priced(rt)?;
     tell(rt, &mut desk, "120 filled of 150", REPORT)?;
-    tell(rt, &mut desk, "match", Call::Match { time: DEADLINE - 1 })?;
-    print_rows(rt, &desk)
+    tell(rt, &mut desk, "match", match_at(DEADLINE - 1))?;
+    print_rows(rt, &desk)?;
+    Ok(())
 }
 
-pub fn late(rt: &HostRuntime) -> io::Result<()> {
+/// The ticket is reported after the match.
+pub fn late(rt: &HostRuntime) -> anyhow::Result<()> {
     println!(rt; "")?;
     println!(rt; "Book nine, its ticket reported after the match")?;
     let mut desk = priced(rt)?;
-    tell(
-        rt,
-        &mut desk,
-        "match at the deadline",
-        Call::Match { time: DEADLINE },
-    )?;
+    tell(rt, &mut desk, "match at the deadline", match_at(DEADLINE))?;
     print_rows(rt, &desk)?;
     tell(rt, &mut desk, "120 filled of 150", REPORT)?;
-    print_rows(rt, &desk)
+    print_rows(rt, &desk)?;
+    Ok(())
 }

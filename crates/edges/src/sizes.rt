@@ -1,18 +1,14 @@
-// The edges of the tables' sizes: one row less or more in one of them.
+//! The edges of the tables' sizes: one row less or more in one of them.
 use crate::edge::{head, print_edge};
 use crate::scenes::{begin, buy, open};
-use auction::runs::call;
-use engine::answer::Answer;
-use engine::limits::{ORDER_ROWS, QUOTE_ROWS, TICKET_ROWS};
-use engine::tables::Tables;
-use market::quote::Quote;
-use market::refusal::Refusal;
-use orders::row::OrderRow;
-use routing::ticket::Ticket;
-use std::io;
+use auction::{call, outstanding};
+use engine::{Answer, Call, ORDER_ROWS, QUOTE_ROWS, TICKET_ROWS, Tables};
+use market::{Quote, Refusal};
+use orders::OrderRow;
+use routing::Ticket;
 
 // Rows for tables of at most one row more than the engine works on.
-#[derive(Clone, Copy, Debug, PartialEq, Eq)]
+#[derive(Clone, Copy, PartialEq)]
 struct Rows {
     buys: [OrderRow; ORDER_ROWS + 1],
     sells: [OrderRow; ORDER_ROWS + 1],
@@ -32,7 +28,7 @@ fn empty_rows() -> Rows {
 }
 
 // How many rows each table has.
-#[derive(Clone, Copy, Debug, PartialEq, Eq)]
+#[derive(Clone, Copy)]
 struct Lengths {
     buys: usize,
     sells: usize,
@@ -49,16 +45,41 @@ const FIT: Lengths = Lengths {
     tickets: TICKET_ROWS,
 };
 
+fn with_buys(buys: usize) -> Lengths {
+    Lengths { buys, ..FIT }
+}
+
+fn with_sells(sells: usize) -> Lengths {
+    Lengths { sells, ..FIT }
+}
+
+fn with_bids(bids: usize) -> Lengths {
+    Lengths { bids, ..FIT }
+}
+
+fn with_offers(offers: usize) -> Lengths {
+    Lengths { offers, ..FIT }
+}
+
+fn with_tickets(tickets: usize) -> Lengths {
+    Lengths { tickets, ..FIT }
+}
+
 // The first rows, as many as are asked for or as there are.
 fn first<T>(rows: &mut [T], length: usize) -> &mut [T] {
     let most = rows.len();
     &mut rows[..length.min(most)]
 }
 
-// A begin on tables of some lengths.
-fn sized(rt: &HostRuntime, what: &str, lengths: Lengths) -> io::Result<()> {
-    let desk = open();
-    let mut engine = desk.engine;
+// A call on empty tables of some lengths, or where there is none, the question for a ticket.
+fn play_lengths(
+    rt: &HostRuntime,
+    what: &str,
+    lengths: Lengths,
+    asked: Option<Call>,
+) -> anyhow::Result<()> {
+    let mut desk = open()?;
+    let engine = desk.engine.clone()?;
     let mut rows = empty_rows();
     let before = rows;
     let mut tables = Tables {
@@ -68,108 +89,63 @@ fn sized(rt: &HostRuntime, what: &str, lengths: Lengths) -> io::Result<()> {
         offers: first(&mut rows.offers, lengths.offers),
         tickets: first(&mut rows.tickets, lengths.tickets),
     };
-    let answer = call(&mut engine, begin(buy()), &desk.venues, &mut tables);
-    print_edge(rt, what, answer, engine == desk.engine && rows == before)
-}
-
-// The question for a ticket on tables of some lengths.
-fn outstanding(rt: &HostRuntime, what: &str, lengths: Lengths) -> io::Result<()> {
-    let engine = open().engine;
-    let mut rows = empty_rows();
-    let before = rows;
-    let tables = Tables {
-        buys: first(&mut rows.buys, lengths.buys),
-        sells: first(&mut rows.sells, lengths.sells),
-        bids: first(&mut rows.bids, lengths.bids),
-        offers: first(&mut rows.offers, lengths.offers),
-        tickets: first(&mut rows.tickets, lengths.tickets),
+    let answer = match asked {
+        Some(asked) => call(&mut desk.engine, &asked, &desk.venues, &mut tables),
+        None => outstanding(&desk.engine, &tables).map(|_| Answer::Done),
     };
-    let answer = engine.outstanding(&tables);
-    print_edge(rt, what, answer.map(|_| Answer::Done), rows == before)
+    let same = desk.engine == engine && rows == before;
+    print_edge(rt, what, answer, same)?;
+    Ok(())
 }
 
-fn sides(rt: &HostRuntime) -> io::Result<()> {
-    sized(
-        rt,
-        "begin with 511 rows of buys",
-        Lengths { buys: 511, ..FIT },
-    )?;
-    sized(
-        rt,
-        "begin with 513 rows of buys",
-        Lengths { buys: 513, ..FIT },
-    )?;
-    sized(
-        rt,
-        "begin with 511 rows of sells",
-        Lengths { sells: 511, ..FIT },
-    )?;
-    sized(
-        rt,
-        "begin with 513 rows of sells",
-        Lengths { sells: 513, ..FIT },
-    )
+// A begin on tables of several lengths.
+fn begins(rt: &HostRuntime, lengths: &[(&str, Lengths)]) -> anyhow::Result<()> {
+    for (what, lengths) in lengths {
+        play_lengths(rt, what, *lengths, Some(begin(buy())))?;
+    }
+    Ok(())
 }
 
-fn others(rt: &HostRuntime) -> io::Result<()> {
-    sized(
-        rt,
-        "begin with 31 rows of bids",
-        Lengths { bids: 31, ..FIT },
-    )?;
-    sized(
-        rt,
-        "begin with 33 rows of bids",
-        Lengths { bids: 33, ..FIT },
-    )?;
-    sized(
-        rt,
-        "begin with 31 rows of offers",
-        Lengths { offers: 31, ..FIT },
-    )?;
-    sized(
-        rt,
-        "begin with 33 rows of offers",
-        Lengths { offers: 33, ..FIT },
-    )?;
-    sized(
-        rt,
-        "begin with 543 rows of tickets",
-        Lengths {
-            tickets: 543,
-            ..FIT
-        },
-    )?;
-    sized(
-        rt,
-        "begin with 545 rows of tickets",
-        Lengths {
-            tickets: 545,
-            ..FIT
-        },
-    )
+// The question for a ticket on tables of several lengths.
+fn questions(rt: &HostRuntime, lengths: &[(&str, Lengths)]) -> anyhow::Result<()> {
+    for (what, lengths) in lengths {
+        play_lengths(rt, what, *lengths, None)?;
+    }
+    Ok(())
 }
 
-pub fn play(rt: &HostRuntime) -> io::Result<()> {
+/// Plays the edges of the tables' sizes.
+pub fn play(rt: &HostRuntime) -> anyhow::Result<()> {
     head(rt, Refusal::TableSizes)?;
-    sized(rt, "begin with 512, 512, 32, 32 and 544 rows", FIT)?;
-    sides(rt)?;
-    others(rt)?;
-    outstanding(rt, "outstanding with 544 rows of tickets", FIT)?;
-    outstanding(
+    begins(
         rt,
-        "outstanding with 543 rows of tickets",
-        Lengths {
-            tickets: 543,
-            ..FIT
-        },
+        &[
+            ("begin with 512, 512, 32, 32 and 544 rows", FIT),
+            ("begin with 511 rows of buys", with_buys(ORDER_ROWS - 1)),
+            ("begin with 513 rows of buys", with_buys(ORDER_ROWS + 1)),
+            ("begin with 511 rows of sells", with_sells(ORDER_ROWS - 1)),
+            ("begin with 513 rows of sells", with_sells(ORDER_ROWS + 1)),
+            ("begin with 31 rows of bids", with_bids(QUOTE_ROWS - 1)),
+            ("begin with 33 rows of bids", with_bids(QUOTE_ROWS + 1)),
+            ("begin with 31 rows of offers", with_offers(QUOTE_ROWS - 1)),
+            ("begin with 33 rows of offers", with_offers(QUOTE_ROWS + 1)),
+        ],
     )?;
-    outstanding(
+    let fewer = with_tickets(TICKET_ROWS - 1);
+    let more = with_tickets(TICKET_ROWS + 1);
+    begins(
         rt,
-        "outstanding with 545 rows of tickets",
-        Lengths {
-            tickets: 545,
-            ..FIT
-        },
+        &[
+            ("begin with 543 rows of tickets", fewer),
+            ("begin with 545 rows of tickets", more),
+        ],
+    )?;
+    questions(
+        rt,
+        &[
+            ("outstanding with 544 rows of tickets", FIT),
+            ("outstanding with 543 rows of tickets", fewer),
+            ("outstanding with 545 rows of tickets", more),
+        ],
     )
 }

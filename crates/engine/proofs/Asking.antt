@@ -1,34 +1,23 @@
 -- What the questions of a call ask, in the words of the rules.
-use Rattle.std.proofs.Common.{◌≡◌, ℕ, ◌+◌, ◌<◌, ◌≤◌, Bool, true, false, ◌&&◌, eqb, leb, List, [], length, get_or, Some, None, Option, ◌↔◌, refl, ap, ◌∙◌, subst, arith}
+use Rattle.std.proofs.Common.{◌≡◌, ℕ, ◌+◌, ◌<◌, ◌≤◌, Bool, true, false, not, ◌&&◌, eqb, leb, ltb, List, length, get_or, Some, None, Option, ◌↔◌, refl, ap, ◌∙◌, subst, arith}
 use Rattle.std.specs.List.{Any}
-use Rattle.std.specs.Option.{MatchOption}
 use Rattle.std.proofs.ByRecursion.{All-get_or}
 use Rattle.std.proofs.lemmas.List.{get_or_default}
-use Rattle.std.proofs.lemmas.Bool.{and_parts, and_from, false≢true, leb-true, le-leb, ltb-true, lt-ltb, eqb-true, eq-eqb}
+use Rattle.std.proofs.lemmas.Bool.{and_parts, and_from, false≢true, leb-true, le-leb, ltb-true, lt-ltb, eq-eqb}
 use Rattle.std.proofs.lemmas.Bool.Decides.{nat_tests}
 use Rattle.market.specs.declared.quote.Quote.{Quote}
-use Rattle.market.specs.declared.side.Side.{Side}
 use Rattle.market.specs.declared.side.Side.TheVariants.{Buy, Sell}
 use Rattle.market.specs.Best.{best_price}
 use Rattle.market.specs.Laws.{IsBest, is_better}
 use Rattle.market.specs.Markets.{Market, no_quote}
-use Rattle.market.proofs.Lawful.{best_is}
-use Rattle.engine.specs.Limits.{day_end, first_start, last_start, quote_age, cycle_gap}
+use Rattle.market.proofs.Bests.{best_some, best_none, best_at}
+use Rattle.engine.specs.Limits.{order_rows, day_end, first_start, last_start, quote_age, cycle_gap, shortest_acceptance, longest_acceptance}
 use Rattle.engine.specs.Questions.{not_before, long_ago, ordered, at_most, at_least}
+use Rattle.engine.proofs.Sizes.{sizes}
 use Rattle.engine.specs.Laws.{TableSizesFit, TimesFit, StartsFit, AcceptanceFits, MinimumsFit, TwoSided, MarketsFit, ReachesFit, RoomFits}
 
 pub table_sizes_fit : TableSizesFit
-table_sizes_fit h =
-    let sides : Bool = eqb (length h.buys) 512 && eqb (length h.sells) 512 in
-    let quotes : Bool = eqb (length h.bids) 32 && eqb (length h.offers) 32 in
-    let others : Bool = quotes && eqb (length h.tickets) 544 in (
-      λ fit. let all = and_parts sides others fit in
-          let both = and_parts (eqb (length h.buys) 512) (eqb (length h.sells) 512) all.0 in
-          let rest = and_parts quotes (eqb (length h.tickets) 544) all.1 in
-          let best = and_parts (eqb (length h.bids) 32) (eqb (length h.offers) 32) rest.0 in
-          record { buys = eqb-true _ _ both.0; sells = eqb-true _ _ both.1; bids = eqb-true _ _ best.0; offers = eqb-true _ _ best.1; tickets = eqb-true _ _ rest.1 },
-      λ r. rw (r.buys, r.sells, r.bids, r.offers, r.tickets) refl,
-    )
+table_sizes_fit h = (λ fit. sizes h fit, λ r. rw (r.buys, r.sells, r.bids, r.offers, r.tickets) refl)
 
 not_before_is : (o : Option ℕ) (time : ℕ) → not_before o time ≡ true ↔ ((last : ℕ) → o ≡ Some last → last ≤ time)
 not_before_is None time = (λ h last e. absurd (let z : ⊥ = cc in z), λ f. refl)
@@ -74,8 +63,8 @@ starts_fit e time facts =
 
 pub acceptance_lem : AcceptanceFits
 acceptance_lem facts = (
-  λ h. let both = and_parts (leb 475 facts.acceptance) (leb facts.acceptance 525) h in (leb-true 475 facts.acceptance both.0, leb-true facts.acceptance 525 both.1),
-  λ b. and_from (leb 475 facts.acceptance) (leb facts.acceptance 525) (le-leb 475 facts.acceptance b.0) (le-leb facts.acceptance 525 b.1),
+  λ h. let both = and_parts (leb shortest_acceptance facts.acceptance) (leb facts.acceptance longest_acceptance) h in (leb-true shortest_acceptance facts.acceptance both.0, leb-true facts.acceptance longest_acceptance both.1),
+  λ b. and_from (leb shortest_acceptance facts.acceptance) (leb facts.acceptance longest_acceptance) (le-leb shortest_acceptance facts.acceptance b.0) (le-leb facts.acceptance longest_acceptance b.1),
 )
 
 pub minimums_fit : MinimumsFit
@@ -90,10 +79,6 @@ minimums_fit price = record {
   special = refl;
 }
 
--- the best price of a list that has one, and of one that has none
-best_some : (side : Side) (xs : List Quote) (p : ℕ) → best_price side xs ≡ Some p → IsBest side xs p
-best_some side xs p e = subst (λ o. MatchOption o (xs ≡ []) (IsBest side xs)) e (best_is side xs)
-
 not_higher : (a p : ℕ) → is_better Buy a p ≡ false → a ≤ p
 not_higher a p h = grind (arith, nat_tests)
 
@@ -106,40 +91,34 @@ bid_most xs p b i l = not_higher _ p (All-get_or (λ x. is_better Buy x.price p 
 offer_least : (xs : List Quote) (p : ℕ) → IsBest Sell xs p → (i : ℕ) → i < length xs → p ≤ (get_or xs i no_quote).price
 offer_least xs p b i l = not_lower _ p (All-get_or (λ x. is_better Sell x.price p ≡ false) xs i no_quote l b.none_better)
 
--- where the best stands
-best_at : (side : Side) (xs : List Quote) (p : ℕ) → IsBest side xs p → (k : ℕ) × (k < length xs) × ((get_or xs k no_quote).price ≡ p)
-best_at side xs p b =
-    let q = b.quoted_there in
-    (q.0, q.2, ap (λ x. x.price) (get_or_default xs q.0 no_quote q.1 q.2 ∙ q.3) ∙ q.4)
+not_above : (bid offer : ℕ) → not (ltb offer bid) ≡ true → bid ≤ offer
+not_above bid offer h = grind (arith, nat_tests)
+
+above_not : (bid offer : ℕ) → bid ≤ offer → not (ltb offer bid) ≡ true
+above_not bid offer l = grind (arith, nat_tests)
 
 ordered_by : (m : Market) (bid offer : Option ℕ) → best_price Buy m.bids ≡ bid → best_price Sell m.offers ≡ offer → ordered bid offer ≡ true ↔ TwoSided m
-ordered_by m None offer b o = (λ h. absurd (false≢true h), λ t. absurd (let none = empty_of Buy m.bids b in let some = t.bid in omega (arith, ap length none)))
-  where
-    empty_of : (side : Side) (xs : List Quote) → best_price side xs ≡ None → xs ≡ []
-    empty_of side xs e = subst (λ v. MatchOption v (xs ≡ []) (IsBest side xs)) e (best_is side xs)
-ordered_by m (Some bid) None b o = (λ h. absurd (false≢true h), λ t. absurd (let none = empty_of Sell m.offers o in let some = t.offer in omega (arith, ap length none)))
-  where
-    empty_of : (side : Side) (xs : List Quote) → best_price side xs ≡ None → xs ≡ []
-    empty_of side xs e = subst (λ v. MatchOption v (xs ≡ []) (IsBest side xs)) e (best_is side xs)
+ordered_by m None offer b o = (λ h. absurd (false≢true h), λ t. absurd (let none = best_none Buy m.bids b in let some = t.bid in omega (arith, ap length none)))
+ordered_by m (Some bid) None b o = (λ h. absurd (false≢true h), λ t. absurd (let none = best_none Sell m.offers o in let some = t.offer in omega (arith, ap length none)))
 ordered_by m (Some bid) (Some offer) b o =
     let best-bid = best_some Buy m.bids bid b in
     let best-offer = best_some Sell m.offers offer o in
     let at-bid = best_at Buy m.bids bid best-bid in
     let at-offer = best_at Sell m.offers offer best-offer in (
-      λ h. let le = leb-true bid offer h in
+      λ h. let le = not_above bid offer h in
           record {
             bid = omega (arith, at-bid.1);
             offer = omega (arith, at-offer.1);
             none_above = λ i j li lj. omega (arith, le, bid_most m.bids bid best-bid i li, offer_least m.offers offer best-offer j lj);
           },
-      λ t. le-leb bid offer (omega (arith, at-bid.2, at-offer.2, t.none_above at-bid.0 at-offer.0 at-bid.1 at-offer.1)),
+      λ t. above_not bid offer (omega (arith, at-bid.2, at-offer.2, t.none_above at-bid.0 at-offer.0 at-bid.1 at-offer.1)),
     )
 
 pub markets_fit : MarketsFit
 markets_fit m = ordered_by m (best_price Buy m.bids) (best_price Sell m.offers) refl refl
 
 buy_reaches : (p : ℕ) (xs : List Quote) (best : Option ℕ) → best_price Sell xs ≡ best → at_most best p ≡ true ↔ Any (λ x. x.price ≤ p) xs
-buy_reaches p xs None e = (λ h. absurd (false≢true h), λ a. absurd (let none : xs ≡ [] = subst (λ v. MatchOption v (xs ≡ []) (IsBest Sell xs)) e (best_is Sell xs) in let l = a.2 in omega (arith, ap length none)))
+buy_reaches p xs None e = (λ h. absurd (false≢true h), λ a. absurd (let none = best_none Sell xs e in let l = a.2 in omega (arith, ap length none)))
 buy_reaches p xs (Some q) e =
     let best = best_some Sell xs q e in
     let at = best_at Sell xs q best in (
@@ -148,7 +127,7 @@ buy_reaches p xs (Some q) e =
     )
 
 sell_reaches : (p : ℕ) (xs : List Quote) (best : Option ℕ) → best_price Buy xs ≡ best → at_least best p ≡ true ↔ Any (λ x. p ≤ x.price) xs
-sell_reaches p xs None e = (λ h. absurd (false≢true h), λ a. absurd (let none : xs ≡ [] = subst (λ v. MatchOption v (xs ≡ []) (IsBest Buy xs)) e (best_is Buy xs) in let l = a.2 in omega (arith, ap length none)))
+sell_reaches p xs None e = (λ h. absurd (false≢true h), λ a. absurd (let none = best_none Buy xs e in let l = a.2 in omega (arith, ap length none)))
 sell_reaches p xs (Some q) e =
     let best = best_some Buy xs q e in
     let at = best_at Buy xs q best in (
@@ -164,6 +143,6 @@ reaches_fit o m = record {
 
 pub room_fits : RoomFits
 room_fits e o = record {
-  buy = λ k. let is : eqb o.side 1 ≡ true = eq-eqb o.side 1 k in rw is (λ t. ltb-true e.used.buys 512 t, λ l. lt-ltb e.used.buys 512 l);
-  sell = λ k. let is : eqb o.side 1 ≡ false = ap (λ s. eqb s 1) k in rw is (λ t. ltb-true e.used.sells 512 t, λ l. lt-ltb e.used.sells 512 l);
+  buy = λ k. let is : eqb o.side 1 ≡ true = eq-eqb o.side 1 k in rw is (λ t. ltb-true e.used.buys order_rows t, λ l. lt-ltb e.used.buys order_rows l);
+  sell = λ k. let is : eqb o.side 1 ≡ false = ap (λ s. eqb s 1) k in rw is (λ t. ltb-true e.used.sells order_rows t, λ l. lt-ltb e.used.sells order_rows l);
 }

@@ -1,16 +1,15 @@
 -- The first ticket that is not reported.
 use Rattle.std.proofs.Common.{◌≡◌, ℕ, ◌+◌, ◌-◌, ◌<◌, ◌≤◌, Bool, true, false, cond, not, ltb, leb, List, length, get_or, Some, None, Ok, Err, Option, refl, sym, ap, ◌∙◌, arith}
-use Rattle.std.specs.List.{prefix_len, position_or_len, position}
+use Rattle.std.specs.List.{prefix_len, position_or_len, position, list_all}
 use Rattle.std.specs.Option.{option_map}
 use Rattle.std.proofs.lemmas.List.Sums.{prefix_len_passes, prefix_len_stops}
 use Rattle.std.proofs.lemmas.List.Recursion.{is_position_or_len, and_from_places}
 use Rattle.std.proofs.lemmas.Bool.{and_from, and_parts, leb-true, false≢true, le-leb, ltb-true, ltb-false}
 use Rattle.market.specs.declared.refusal.Refusal.TheVariants.{TableSizes}
-use Rattle.market.specs.Fits.{all_by}
 use Rattle.routing.specs.declared.ticket.Ticket.{Ticket}
 use Rattle.routing.specs.Tickets.{empty_ticket}
 use Rattle.engine.specs.declared.state.Engine.{Engine}
-use Rattle.engine.specs.States.{Held, tickets_in}
+use Rattle.engine.specs.States.{TableRows, tickets_in}
 use Rattle.engine.specs.Questions.{sizes_fit}
 use Rattle.engine.specs.Outstanding.{first_open, outstanding_of, OpenTicket, Outstanding, outstanding_numbers, NumberedOutstanding}
 
@@ -31,12 +30,12 @@ next_of false n = refl
 pub first_open_at : (ts : List Ticket) → first_open ts ≡ option_map (λ i. i + 1) (position (λ t. not t.reported) ts)
 first_open_at ts = ap (λ n. cond (ltb n (length ts)) (Some (n + 1)) None) (before_first (λ t. t.reported) ts) ∙ next_of (ltb (position_or_len (λ t. not t.reported) ts) (length ts)) (position_or_len (λ t. not t.reported) ts)
 
-module _ (e : Engine) (h : Held) where
+module _ (e : Engine) (h : TableRows) where
   abbrev ts : List Ticket
   ts = tickets_in e h
 
-  all_pass : length ts ≤ prefix_len (λ x. x.reported) ts → all_by (λ x. x.reported) ts ≡ true
-  all_pass h = and_from_places (all_by (λ x. x.reported)) (λ x. x.reported) refl (λ _ _. refl) ts empty_ticket (λ i l. prefix_len_passes (λ x. x.reported) ts i empty_ticket (omega arith))
+  all_pass : length ts ≤ prefix_len (λ x. x.reported) ts → list_all (λ x. x.reported) ts ≡ true
+  all_pass h = and_from_places (list_all (λ x. x.reported)) (λ x. x.reported) refl (λ _ _. refl) ts empty_ticket (λ i l. prefix_len_passes (λ x. x.reported) ts i empty_ticket (omega arith))
 
   open_by : (t : Bool) → ltb (prefix_len (λ x. x.reported) ts) (length ts) ≡ t → OpenTicket e h (cond t (Some (prefix_len (λ x. x.reported) ts + 1)) None)
   open_by true k =

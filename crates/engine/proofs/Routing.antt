@@ -11,7 +11,7 @@ use Rattle.market.specs.Rankings.{higher, lower, quote_ahead}
 use Rattle.routing.specs.Owed.{owed}
 use Rattle.routing.specs.Tickets.{tickets}
 use Rattle.engine.specs.declared.state.Engine.{Engine}
-use Rattle.engine.specs.States.{Held, buys_in, sells_in}
+use Rattle.engine.specs.States.{TableRows, buys_in, sells_in}
 use Rattle.routing.specs.declared.ticket.Ticket.{Ticket}
 use Rattle.engine.specs.Effects.{ranked_bids, ranked_offers, book_in, with_quotes, written, with_tickets, drawn, shares_out, owed_out, tickets_at, with_routed}
 
@@ -19,14 +19,14 @@ front : {X : Type 0} (ahead : X → X → Bool) (xs rows : List X) → take (len
 front ahead xs rows = take_at (ranked ahead xs) (drop (length (ranked ahead xs)) rows) (length xs) (length_ranked ahead xs)
 
 -- the tickets of each side at a price
-abbrev pub buy_tickets : Engine → Market → Held → ℕ → List Ticket
+abbrev pub buy_tickets : Engine → Market → TableRows → ℕ → List Ticket
 buy_tickets e m h price = tickets (owed Buy (book_in e m h) price) (buys_in e h) (ranked_offers m)
 
-abbrev pub sell_tickets : Engine → Market → Held → ℕ → List Ticket
+abbrev pub sell_tickets : Engine → Market → TableRows → ℕ → List Ticket
 sell_tickets e m h price = tickets (owed Sell (book_in e m h) price) (sells_in e h) (ranked_bids m)
 
-module _ (e : Engine) (m : Market) (h h1 : Held) (same : h1 ≡ with_quotes m h) (price k : ℕ) (h2 : Held) (n : ℕ) where
-  abbrev after : Held
+module _ (e : Engine) (m : Market) (h h1 : TableRows) (same : h1 ≡ with_quotes m h) (price k : ℕ) (h2 : TableRows) (n : ℕ) where
+  abbrev after : TableRows
   after = with_quotes m h
 
   abbrev buys_owe : Bool

@@ -6,6 +6,7 @@ use Rattle.std.proofs.lemmas.Bool.{and_parts, eqb-true, ltb-true, cond_both}
 use Rattle.ranking.proofs.Insertion.{length_placed}
 use Rattle.ranking.proofs.Listed.{length_ranked}
 use Rattle.market.specs.declared.refusal.Refusal.{Refusal}
+use Rattle.market.specs.declared.refusal.Refusal.TheVariants.{Quotes, SideFull}
 use Rattle.market.specs.declared.side.Side.TheVariants.{Buy, Sell}
 use Rattle.market.specs.Fits.{quotes_fit}
 use Rattle.market.specs.Markets.{Market, no_quote}
@@ -13,8 +14,8 @@ use Rattle.market.specs.Questions.{first_no}
 use Rattle.market.specs.Rankings.{higher, lower, quote_ahead}
 use Rattle.market.proofs.Asked.{all_yes}
 use Rattle.market.proofs.Fitting.{bids_fit, offers_fit, few_quotes}
-use Rattle.pricing.specs.declared.cause.Cause.TheVariants.{NothingToTrade, LockedOrCrossed, NoReference, Halted}
-use Rattle.pricing.specs.Closing.{Outcome}
+use Rattle.pricing.specs.declared.cause.Cause.TheVariants.{Halted}
+use Rattle.pricing.specs.Outcomes.{Outcome}
 use Rattle.orders.specs.declared.order.Order.{Order}
 use Rattle.orders.specs.declared.row.OrderRow.{OrderRow}
 use Rattle.orders.specs.Rows.{empty_row, entered_row, with_cancelled, with_here, with_out, with_settled}
@@ -24,27 +25,20 @@ use Rattle.routing.specs.declared.ticket.Ticket.{Ticket}
 use Rattle.routing.specs.Owed.{owed}
 use Rattle.routing.specs.Tickets.{empty_ticket}
 use Rattle.routing.proofs.Count.{tickets_most}
-use Rattle.engine.specs.declared.call.Call.{Call}
-use Rattle.engine.specs.declared.call.Call.TheVariants.{Begin, Enter, Cancel, Close, Report, Match, Finish, Abort}
+use Rattle.engine.specs.Asked.{Asked, Begin, Enter, Cancel, Close, Report, Match, Abort}
 use Rattle.engine.specs.declared.state.Engine.{Engine}
 use Rattle.engine.specs.declared.state.Used.{Used}
 use Rattle.engine.specs.Limits.{order_rows, quote_rows, ticket_rows}
 use Rattle.engine.specs.Stages.{is_matched, price_of}
-use Rattle.engine.specs.States.{Held, none_used, buys_in, sells_in}
+use Rattle.engine.specs.States.{TableRows, IsSized, none_used, buys_in, sells_in}
 use Rattle.engine.specs.Questions.{sizes_fit, questions, ticket_at}
-use Rattle.engine.specs.Effects.{Left, unless, ahead_on, emptied, seated, order_held, changed_in, with_order, book_in, ranked_bids, ranked_offers, written, with_quotes, tickets_at, with_tickets, with_routed, without_rests, reported, to_execute, close, done}
+use Rattle.engine.specs.Effects.{Left, unless, ahead_on, emptied, seated, order_held, changed_in, with_order, book_in, ranked_bids, ranked_offers, written, with_quotes, tickets_at, with_tickets, with_routed, rests_cancelled, reported, to_execute, close, done}
 use Rattle.engine.specs.Steps.{Called, SameSizes}
+use Rattle.engine.proofs.Answered.{yes_to}
 use Rattle.engine.proofs.Routing.{buy_tickets, sell_tickets}
 
 -- the sizes that every granted call finds
-pub record Sizes (h : Held) : Type 0 where
-  pub buys : length h.buys ≡ order_rows
-  pub sells : length h.sells ≡ order_rows
-  pub bids : length h.bids ≡ quote_rows
-  pub offers : length h.offers ≡ quote_rows
-  pub tickets : length h.tickets ≡ ticket_rows
-
-pub sizes : (h : Held) → sizes_fit h ≡ true → Sizes h
+pub sizes : (h : TableRows) → sizes_fit h ≡ true → IsSized h
 sizes h k =
     let parts = and_parts (eqb (length h.buys) order_rows && eqb (length h.sells) order_rows) _ k in
     let sides = and_parts (eqb (length h.buys) order_rows) (eqb (length h.sells) order_rows) parts.0 in
@@ -58,10 +52,10 @@ sizes h k =
       tickets = eqb-true (length h.tickets) ticket_rows others.1;
     }
 
-same_sizes : (h : Held) → SameSizes h h
+same_sizes : (h : TableRows) → SameSizes h h
 same_sizes h = record { buys = refl; sells = refl; bids = refl; offers = refl; tickets = refl }
 
-sizes_on : {a b c : Held} → SameSizes a b → SameSizes b c → SameSizes a c
+sizes_on : {a b c : TableRows} → SameSizes a b → SameSizes b c → SameSizes a c
 sizes_on s t = record {
   buys = s.buys ∙ t.buys;
   sells = s.sells ∙ t.sells;
@@ -81,7 +75,7 @@ length_changed : (f : OrderRow → OrderRow) (place : Option ℕ) (rows : List O
 length_changed f None rows = refl
 length_changed f (Some place) rows = length-set rows place _
 
-emptied_sizes : (h : Held) → SameSizes (emptied h) h
+emptied_sizes : (h : TableRows) → SameSizes (emptied h) h
 emptied_sizes h = record {
   buys = length-replicate (length h.buys) empty_row;
   sells = length-replicate (length h.sells) empty_row;
@@ -91,18 +85,18 @@ emptied_sizes h = record {
 }
 
 -- an order for which its side has room
-order_sizes : (o : Order) (used : Used) (h : Held)
+order_sizes : (o : Order) (used : Used) (h : TableRows)
     → (eqb o.side 1 ≡ true → used.buys < length h.buys) → (eqb o.side 1 ≡ false → used.sells < length h.sells) → SameSizes (order_held o used h) h
 order_sizes o used h buys-room sells-room = cond_both (eqb o.side 1) _ _ (λ x. SameSizes x h)
     (λ t. record { buys = length_seated (ahead_on Buy) used.buys (entered_row o) h.buys (buys-room t); sells = refl; bids = refl; offers = refl; tickets = refl })
     (λ f. record { buys = refl; sells = length_seated (ahead_on Sell) used.sells (entered_row o) h.sells (sells-room f); bids = refl; offers = refl; tickets = refl })
 
-changed_sizes : (f : OrderRow → OrderRow) (number : ℕ) (e : Engine) (h : Held) → SameSizes (with_order f number e h) h
+changed_sizes : (f : OrderRow → OrderRow) (number : ℕ) (e : Engine) (h : TableRows) → SameSizes (with_order f number e h) h
 changed_sizes f number e h = cond_both (is_some (place_of number (buys_in e h))) _ _ (λ x. SameSizes x h)
     (λ _. record { buys = length_changed f (place_of number (buys_in e h)) h.buys; sells = refl; bids = refl; offers = refl; tickets = refl })
     (λ _. record { buys = refl; sells = length_changed f (place_of number (sells_in e h)) h.sells; bids = refl; offers = refl; tickets = refl })
 
-rests_sizes : (h : Held) → SameSizes (without_rests h) h
+rests_sizes : (h : TableRows) → SameSizes (rests_cancelled h) h
 rests_sizes h = record {
   buys = length-map h.buys (if_whole with_cancelled);
   sells = length-map h.sells (if_whole with_cancelled);
@@ -111,7 +105,7 @@ rests_sizes h = record {
   tickets = refl;
 }
 
-module _ (e : Engine) (m : Market) (h : Held) (long : Sizes h) (fit : quotes_fit m ≡ true) where
+module _ (e : Engine) (m : Market) (h : TableRows) (long : IsSized h) (fit : quotes_fit m ≡ true) where
   quotes_sizes : SameSizes (with_quotes m h) h
   quotes_sizes = record {
     buys = refl;
@@ -157,24 +151,22 @@ module _ (e : Engine) (m : Market) (h : Held) (long : Sizes h) (fit : quotes_fit
   close_sizes : (time : ℕ) (x : Outcome) → SameSizes (close e m h time x).held h
   close_sizes time (Ok x) = sizes_on (routed_sizes x.0) quotes_sizes
   close_sizes time (Err Halted) = rests_sizes h
-  close_sizes time (Err LockedOrCrossed) = quotes_sizes
-  close_sizes time (Err NothingToTrade) = quotes_sizes
-  close_sizes time (Err NoReference) = quotes_sizes
+  close_sizes time (Err cause) = quotes_sizes
 
-module _ (e : Engine) (m : Market) (h : Held) where
-  granted_sizes : (call : Call) (x : Outcome) → AllByRecursion (λ q. q.yes ≡ true) (questions e m h call) → SameSizes (done e m h call x).held h
+module _ (e : Engine) (m : Market) (h : TableRows) where
+  granted_sizes : (call : Asked) (x : Outcome) → AllByRecursion (λ q. q.yes ≡ true) (questions e m h call) → SameSizes (done e m h call x).held h
   granted_sizes (Begin time order facts) x all =
       let long = sizes h all.0 in
       let none = emptied_sizes h in
       sizes_on (order_sizes order none_used (emptied h) (λ _. omega arith) (λ _. omega arith)) none
   granted_sizes (Enter order) x all =
       let long = sizes h all.0 in
-      let room = all.1.1.1.1.0 in
+      let room = yes_to SideFull (questions e m h (Enter order)) all in
       order_sizes order e.used h
       (λ t. omega (arith, ltb-true e.used.buys order_rows (subst (λ b. cond b (ltb e.used.buys order_rows) (ltb e.used.sells order_rows) ≡ true) t room)))
       (λ f. omega (arith, ltb-true e.used.sells order_rows (subst (λ b. cond b (ltb e.used.buys order_rows) (ltb e.used.sells order_rows) ≡ true) f room)))
   granted_sizes (Cancel number) x all = changed_sizes with_cancelled number e h
-  granted_sizes (Close time last) x all = close_sizes e m h (sizes h all.0) all.1.1.1.1.0 time x
+  granted_sizes (Close time last) x all = close_sizes e m h (sizes h all.0) (yes_to Quotes (questions e m h (Close time last)) all) time x
   granted_sizes (Report ticket filled) x all =
       let t : Ticket = ticket_at e h ticket in
       let c = changed_sizes (with_settled t.shares filled (is_matched e.stage)) t.order e h in
@@ -182,12 +174,12 @@ module _ (e : Engine) (m : Market) (h : Held) where
   granted_sizes (Match time) x all =
       let n : ℕ = to_execute h (price_of e.stage) in
       record { buys = length_handed with_here n h.buys; sells = length_handed with_here n h.sells; bids = refl; offers = refl; tickets = refl }
-  granted_sizes (Finish time) x all = same_sizes h
   granted_sizes (Abort time) x all = rests_sizes h
+  granted_sizes call x all = same_sizes h
 
-  left_sizes : (call : Call) (x : Outcome) (r : Option Refusal) → first_no (questions e m h call) ≡ r → SameSizes (unless r e h (done e m h call x)).held h
+  left_sizes : (call : Asked) (x : Outcome) (r : Option Refusal) → first_no (questions e m h call) ≡ r → SameSizes (unless r e h (done e m h call x)).held h
   left_sizes call x (Some refusal) is = same_sizes h
   left_sizes call x None is = granted_sizes call x (all_yes (questions e m h call) is)
 
-pub call_sizes : (e : Engine) (m : Market) (h : Held) (call : Call) (left : Left) → Called e m h call left → SameSizes left.held h
+pub call_sizes : (e : Engine) (m : Market) (h : TableRows) (call : Asked) (left : Left) → Called e m h call left → SameSizes left.held h
 call_sizes e m h call left c = subst (λ l. SameSizes l.held h) (sym c.is) (left_sizes e m h call c.outcome (first_no (questions e m h call)) refl)

@@ -11,13 +11,13 @@ use Rattle.engine.specs.declared.listed.Listed.{Listed}
 abbrev pub book_from : List OrderRow → List OrderRow → List Quote → List Quote → Book
 book_from buys sells bids offers = record { buys = rest_levels buys; sells = rest_levels sells; bids = bids; offers = offers }
 
-abbrev pub book_of : TableBook → Book
-book_of t = book_from t.buys.now t.sells.now t.quotes.bids.now t.quotes.offers.now
+abbrev pub table_book : TableBook → Book
+table_book t = book_from t.buys.now t.sells.now t.quotes.bids.now t.quotes.offers.now
 
 -- the market of two quote lists
-abbrev pub listed : List Quote → List Quote → Bool → Market
-listed bids offers halted = record { bids = bids; offers = offers; halted = halted }
+abbrev pub market_with : List Quote → List Quote → Bool → Market
+market_with bids offers halted = record { bids = bids; offers = offers; halted = halted }
 
 -- the market that the quotes at a close make
-abbrev pub market_of : Listed → Market
-market_of quotes = listed quotes.bids.now quotes.offers.now quotes.halted
+abbrev pub listed_market : Listed → Market
+listed_market quotes = market_with quotes.bids.now quotes.offers.now quotes.halted

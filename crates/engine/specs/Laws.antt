@@ -4,28 +4,22 @@ use Rattle.std.specs.Prelude.{◌≡◌, ℕ, ◌+◌, ◌<◌, ◌≤◌, ◌�
 use Rattle.std.specs.List.{Any}
 use Rattle.market.specs.Markets.{Market, no_quote}
 use Rattle.orders.specs.declared.order.Order.{Order}
-use Rattle.engine.specs.declared.call.Call.{Call}
+use Rattle.engine.specs.Asked.{Asked}
 use Rattle.engine.specs.declared.call.Facts.{Facts}
 use Rattle.engine.specs.declared.stage.Issue.TheVariants.{Ordinary, Special}
 use Rattle.engine.specs.declared.stage.Stage.{Stage}
 use Rattle.engine.specs.declared.stage.Stage.TheVariants.{Open, Acceptance, Satisfaction, Matched}
 use Rattle.engine.specs.declared.state.Engine.{Engine}
+use Rattle.engine.specs.Limits.{order_rows, day_end, first_start, last_start, quote_age, cycle_gap, shortest_acceptance, longest_acceptance}
 use Rattle.engine.specs.Minimum.{minimum}
 use Rattle.engine.specs.Answers.{stage_number}
-use Rattle.engine.specs.States.{Held}
+use Rattle.engine.specs.States.{TableRows, IsSized}
 use Rattle.engine.specs.Questions.{sizes_fit, stage_fits, time_fits, two_sided, reaches, start_time_fits, acceptance_fits, has_room}
 use Rattle.engine.specs.Numbered.{in_stage}
 
--- the tables have 512 rows for the orders of a side, 32 for its quotes, and 544 for tickets
-pub record RowsOfTables (h : Held) : Type 0 where
-  pub buys : length h.buys ≡ 512
-  pub sells : length h.sells ≡ 512
-  pub bids : length h.bids ≡ 32
-  pub offers : length h.offers ≡ 32
-  pub tickets : length h.tickets ≡ 544
-
+-- the tables have a row for each order that a side can have, for each quote of a side, and for each ticket
 abbrev pub TableSizesFit : Type 0
-TableSizesFit = (h : Held) → sizes_fit h ≡ true ↔ RowsOfTables h
+TableSizesFit = (h : TableRows) → sizes_fit h ≡ true ↔ IsSized h
 
 -- the stages have the numbers 0 to 3, and a call comes in those that are written out for it
 pub record StagesFit : Type 0 where
@@ -33,29 +27,29 @@ pub record StagesFit : Type 0 where
   pub in_acceptance : (closes : ℕ) → stage_number (Acceptance closes) ≡ 1
   pub in_satisfaction : (price deadline : ℕ) → stage_number (Satisfaction price deadline) ≡ 2
   pub when_matched : stage_number Matched ≡ 3
-  pub fits : (call : Call) (s : Stage) → stage_fits call s ≡ in_stage call (stage_number s)
+  pub fits : (call : Asked) (s : Stage) → stage_fits call s ≡ in_stage call (stage_number s)
 
 -- a time of the day, not before the last accepted one, if there is one
 pub record TimeOfDay (e : Engine) (time : ℕ) : Type 0 where
-  pub of_day : time ≤ 86399999
+  pub of_day : time ≤ day_end
   pub after : (last : ℕ) → e.last_time ≡ Some last → last ≤ time
 
 abbrev pub TimesFit : Type 0
 TimesFit = (e : Engine) (time : ℕ) → time_fits e time ≡ true ↔ TimeOfDay e time
 
--- within the hours of starts, the primary market's first two-sided quote known and at least 300,000 ago, the last cycle's end, if there was
--- a cycle, at least 60,000 ago
+-- within the hours of starts, the primary market's first two-sided quote known and long ago, and the last cycle's end, if there was
+-- a cycle, long ago too
 pub record MayStart (e : Engine) (time : ℕ) (facts : Facts) : Type 0 where
-  pub first : 30600000 ≤ time
-  pub last : time ≤ 53699999
-  pub quoted : (since : ℕ) × (facts.first_quote ≡ Some since) × (since + 300000 ≤ time)
-  pub gap : (ended : ℕ) → e.last_end ≡ Some ended → ended + 60000 ≤ time
+  pub first : first_start ≤ time
+  pub last : time ≤ last_start
+  pub quoted : (since : ℕ) × (facts.first_quote ≡ Some since) × (since + quote_age ≤ time)
+  pub gap : (ended : ℕ) → e.last_end ≡ Some ended → ended + cycle_gap ≤ time
 
 abbrev pub StartsFit : Type 0
 StartsFit = (e : Engine) (time : ℕ) (facts : Facts) → start_time_fits e time facts ≡ true ↔ MayStart e time facts
 
 abbrev pub AcceptanceFits : Type 0
-AcceptanceFits = (facts : Facts) → acceptance_fits facts ≡ true ↔ (475 ≤ facts.acceptance) × (facts.acceptance ≤ 525)
+AcceptanceFits = (facts : Facts) → acceptance_fits facts ≡ true ↔ (shortest_acceptance ≤ facts.acceptance) × (facts.acceptance ≤ longest_acceptance)
 
 -- the least shares of a start order, by its price
 pub record Minimums (price : ℕ) : Type 0 where
@@ -88,10 +82,10 @@ pub record Reaching (o : Order) (m : Market) : Type 0 where
 abbrev pub ReachesFit : Type 0
 ReachesFit = (o : Order) (m : Market) → Reaching o m
 
--- a side has room for a further order while it has fewer than 512
+-- a side has room for a further order while it has fewer than its table has rows
 pub record Room (e : Engine) (o : Order) : Type 0 where
-  pub buy : o.side ≡ 1 → has_room e o ≡ true ↔ e.used.buys < 512
-  pub sell : o.side ≡ 2 → has_room e o ≡ true ↔ e.used.sells < 512
+  pub buy : o.side ≡ 1 → has_room e o ≡ true ↔ e.used.buys < order_rows
+  pub sell : o.side ≡ 2 → has_room e o ≡ true ↔ e.used.sells < order_rows
 
 abbrev pub RoomFits : Type 0
 RoomFits = (e : Engine) (o : Order) → Room e o

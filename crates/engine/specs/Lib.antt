@@ -1,11 +1,11 @@
 pub mod Limits
 pub mod Minimum
+pub mod Asked
 pub mod States
 pub mod Stages
 pub mod Answers
 pub mod Questions
 pub mod Outstanding
-pub mod Lent
 pub mod Books
 pub mod Effects
 pub mod Steps

@@ -1,5 +1,5 @@
 -- The limits of the engine, each once. Times are milliseconds since midnight.
-use Rattle.std.specs.Prelude.{ℕ, ◌+◌}
+use Rattle.std.specs.Prelude.{◌≡◌, ℕ, ◌+◌}
 use Rattle.market.specs.Limits.{most_orders, most_quotes}
 
 -- how many rows the tables have: orders on a side, quotes on a side, tickets
@@ -40,3 +40,22 @@ longest_acceptance = 525
 -- how long tickets may be reported before the match may come without them
 abbrev pub ticket_time : ℕ
 ticket_time = 200
+
+-- their values, in the words of the rules
+pub record EngineLimits : Type 0 where
+  -- rows for the orders of a side, for its quotes, and for tickets
+  pub orders : order_rows ≡ 512
+  pub quotes : quote_rows ≡ 32
+  pub tickets : ticket_rows ≡ 544
+  -- 23:59:59.999; 8:30:00 and 14:54:59.999
+  pub day : day_end ≡ 86399999
+  pub first : first_start ≡ 30600000
+  pub last : last_start ≡ 53699999
+  -- five minutes, and one
+  pub age : quote_age ≡ 300000
+  pub gap : cycle_gap ≡ 60000
+  -- around half a second
+  pub shortest : shortest_acceptance ≡ 475
+  pub longest : longest_acceptance ≡ 525
+  -- a fifth of a second
+  pub reports : ticket_time ≡ 200

@@ -1,11 +1,14 @@
 -- The minimum size of a start order.
 use Rattle.std.specs.Prelude.{ℕ, cond, List, [], ◌∷◌, nat_le}
-use Rattle.engine.specs.declared.minimum.Step.{Step}
 use Rattle.engine.specs.declared.stage.Issue.{Issue}
 use Rattle.engine.specs.declared.stage.Issue.TheVariants.{Ordinary, Special}
 
--- from each price up, so many shares
-abbrev pub steps : List Step
+-- from a price up, so many shares
+pub record MinimumStep : Type 0 where
+  pub price : ℕ
+  pub shares : ℕ
+
+abbrev pub steps : List MinimumStep
 steps =
     record { price = 2; shares = 100000 }
     ∷ record { price = 20000; shares = 50000 }
@@ -17,7 +20,7 @@ steps =
     ∷ []
 
 -- the shares of the last step at the price or lower
-abbrev pub last_step : ℕ → ℕ → List Step → ℕ
+abbrev pub last_step : ℕ → ℕ → List MinimumStep → ℕ
 last_step price shares [] = shares
 last_step price shares (s ∷ ss) = last_step price (cond (nat_le s.price price) s.shares shares) ss
 

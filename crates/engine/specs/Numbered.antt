@@ -1,26 +1,26 @@
 -- The numbers that a call answers, by the call and by what it met. Each number is written out beside its rule.
 use Rattle.std.specs.Prelude.{◌≡◌, ℕ, Bool, true, false, cond, not, ◌||◌, ◌&&◌, ◌==◌, List, [], ◌∷◌, length, nat_le, nat_lt}
+use Rattle.std.specs.List.{list_all}
 use Rattle.market.specs.Limits.{highest_price}
 use Rattle.market.specs.Markets.{Market}
-use Rattle.market.specs.Fits.{quotes_fit, all_by}
+use Rattle.market.specs.Fits.{quotes_fit}
 use Rattle.market.specs.declared.side.Side.TheVariants.{Buy, Sell}
 use Rattle.pricing.specs.Books.{Book, Sound}
-use Rattle.pricing.specs.Closing.{best_on, touching, reference, Orderly, Nothing, Undecided, Priced}
+use Rattle.pricing.specs.Outcomes.{best_on, touching, reference, Orderly, Nothing, Undecided, Priced}
 use Rattle.orders.specs.Orders.{well_formed}
-use Rattle.engine.specs.declared.answer.Closing.{Closing}
+use Rattle.engine.specs.declared.answer.CloseAnswer.{CloseAnswer}
 use Rattle.engine.specs.declared.answer.Numbers.{Numbers}
-use Rattle.engine.specs.declared.call.Call.{Call}
-use Rattle.engine.specs.declared.call.Call.TheVariants.{Begin, Enter, Cancel, Close, Report, Match, Finish, Abort}
+use Rattle.engine.specs.Asked.{Asked, Begin, Enter, Cancel, Close, Report, Match, Finish, Abort}
 use Rattle.engine.specs.declared.state.Engine.{Engine}
-use Rattle.engine.specs.Answers.{closing, no_closing, numbers, stage_number}
+use Rattle.engine.specs.Answers.{close_answer, no_close_answer, numbers, stage_number}
 use Rattle.engine.specs.Minimum.{minimum}
 use Rattle.engine.specs.Stages.{closes_at, deadline_of, price_of}
-use Rattle.engine.specs.States.{Held, tickets_in}
+use Rattle.engine.specs.States.{TableRows, tickets_in}
 use Rattle.engine.specs.Questions.{sizes_fit, time_fits, two_sided, reaches, start_time_fits, acceptance_fits, on_book, has_room, rest_of, is_ticket, ticket_at}
 use Rattle.engine.specs.Effects.{book_in, tickets_at, all_rests, to_execute}
 
 -- whether a call comes in a stage: 0 open, 1 acceptance, 2 satisfaction, 3 matched
-abbrev pub in_stage : Call → ℕ → Bool
+abbrev pub in_stage : Asked → ℕ → Bool
 in_stage (Begin time order facts) stage = stage == 0
 in_stage (Enter order) stage = stage == 1
 in_stage (Cancel number) stage = stage == 1
@@ -31,7 +31,7 @@ in_stage (Finish time) stage = stage == 3
 in_stage (Abort time) stage = nat_le 1 stage && nat_le stage 3
 
 -- the questions of each call with their numbers, in their order
-abbrev pub own_numbered : Engine → Market → Held → Call → List (ℕ × Bool)
+abbrev pub own_numbered : Engine → Market → TableRows → Asked → List (ℕ × Bool)
 own_numbered e m h (Begin time order facts) =
     (3, time_fits e time)
     ∷ (4, quotes_fit m)
@@ -52,11 +52,11 @@ own_numbered e m h (Close time last) =
 own_numbered e m h (Report ticket filled) =
     (20, is_ticket e h ticket) ∷ (21, not (ticket_at e h ticket).reported) ∷ (22, nat_le filled (ticket_at e h ticket).shares) ∷ []
 own_numbered e m h (Match time) =
-    (3, time_fits e time) ∷ (23, all_by (λ t. t.reported) (tickets_in e h) || nat_le (deadline_of e.stage) time) ∷ []
+    (3, time_fits e time) ∷ (23, list_all (λ t. t.reported) (tickets_in e h) || nat_le (deadline_of e.stage) time) ∷ []
 own_numbered e m h (Finish time) = (3, time_fits e time) ∷ []
 own_numbered e m h (Abort time) = (3, time_fits e time) ∷ []
 
-abbrev pub numbered : Engine → Market → Held → Call → List (ℕ × Bool)
+abbrev pub numbered : Engine → Market → TableRows → Asked → List (ℕ × Bool)
 numbered e m h call = (1, sizes_fit h) ∷ (2, in_stage call (stage_number e.stage)) ∷ own_numbered e m h call
 
 -- the number of the first question that is answered "no"; 0 where none is
@@ -73,24 +73,21 @@ pub data CloseRule (halted : Bool) (b : Book) (last : ℕ) : ℕ → ℕ → ℕ
   trading_halted : halted ≡ true → CloseRule halted b last 4 0 0
 
 -- what a close answers on a book of permitted prices; price, count and tickets are 0 unless the cause is 0
-pub record CloseNumbers (e : Engine) (m : Market) (h : Held) (last : ℕ) (c : Closing) : Type 0 where
+pub record CloseNumbers (e : Engine) (m : Market) (h : TableRows) (last : ℕ) (c : CloseAnswer) : Type 0 where
   pub rule : Sound (book_in e m h) → CloseRule m.halted (book_in e m h) last c.cause c.price c.count
   pub tickets : c.cause ≡ 0 → c.tickets ≡ length (tickets_at e m h c.price)
-  pub zeros : (c.cause ≡ 0 → ⊥) → c ≡ closing c.cause 0 0 0
+  pub zeros : (c.cause ≡ 0 → ⊥) → c ≡ close_answer c.cause 0 0 0
 
 -- the shares, and what a close answers, of each kind of call that is granted
-abbrev pub Answered : Engine → Market → Held → Call → ℕ → Closing → Type 0
-Answered e m h (Begin time order facts) shares c = (shares ≡ 0) × (c ≡ no_closing)
-Answered e m h (Enter order) shares c = (shares ≡ 0) × (c ≡ no_closing)
-Answered e m h (Cancel number) shares c = (shares ≡ rest_of e h number) × (c ≡ no_closing)
+abbrev pub Answered : Engine → Market → TableRows → Asked → ℕ → CloseAnswer → Type 0
+Answered e m h (Cancel number) shares c = (shares ≡ rest_of e h number) × (c ≡ no_close_answer)
 Answered e m h (Close time last) shares c = (shares ≡ 0) × CloseNumbers e m h last c
-Answered e m h (Report ticket filled) shares c = (shares ≡ 0) × (c ≡ no_closing)
-Answered e m h (Match time) shares c = (shares ≡ to_execute h (price_of e.stage)) × (c ≡ no_closing)
-Answered e m h (Finish time) shares c = (shares ≡ 0) × (c ≡ no_closing)
-Answered e m h (Abort time) shares c = (shares ≡ all_rests h) × (c ≡ no_closing)
+Answered e m h (Match time) shares c = (shares ≡ to_execute h (price_of e.stage)) × (c ≡ no_close_answer)
+Answered e m h (Abort time) shares c = (shares ≡ all_rests h) × (c ≡ no_close_answer)
+Answered e m h call shares c = (shares ≡ 0) × (c ≡ no_close_answer)
 
 -- the number of the first "no" with zeros; else 0 with what a call of its kind answers
-pub record Numbered (e : Engine) (m : Market) (h : Held) (call : Call) (n : Numbers) : Type 0 where
+pub record Numbered (e : Engine) (m : Market) (h : TableRows) (call : Asked) (n : Numbers) : Type 0 where
   pub refusal : n.refusal ≡ first_number (numbered e m h call)
-  pub refused : (n.refusal ≡ 0 → ⊥) → n ≡ numbers n.refusal 0 no_closing
-  pub granted : n.refusal ≡ 0 → Answered e m h call n.shares n.closing
+  pub refused : (n.refusal ≡ 0 → ⊥) → n ≡ numbers n.refusal 0 no_close_answer
+  pub granted : n.refusal ≡ 0 → Answered e m h call n.shares n.close

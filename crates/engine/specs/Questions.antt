@@ -1,5 +1,6 @@
 -- The questions put before each call, in their order. The first "no" refuses, and a call is refused in no other case.
 use Rattle.std.specs.Prelude.{ℕ, ◌+◌, ◌-◌, Bool, true, false, cond, not, ◌&&◌, ◌||◌, List, [], ◌∷◌, length, is_some, Some, None, Option, ◌==◌, nat_le, nat_lt, slice_index_or}
+use Rattle.std.specs.List.{list_all}
 use Rattle.market.specs.declared.side.Side.{Side}
 use Rattle.market.specs.declared.side.Side.TheVariants.{Buy, Sell}
 use Rattle.market.specs.declared.refusal.Refusal.{Refusal}
@@ -7,8 +8,9 @@ use Rattle.market.specs.declared.refusal.Refusal.TheVariants.{TableSizes, WrongS
 use Rattle.market.specs.Limits.{highest_price}
 use Rattle.market.specs.Markets.{Market}
 use Rattle.market.specs.Best.{best_price}
-use Rattle.market.specs.Fits.{quotes_fit, all_by}
+use Rattle.market.specs.Fits.{quotes_fit}
 use Rattle.market.specs.Questions.{Question}
+use Rattle.pricing.specs.Outcomes.{is_crossed}
 use Rattle.orders.specs.declared.order.Order.{Order}
 use Rattle.orders.specs.declared.row.OrderRow.{OrderRow}
 use Rattle.orders.specs.Orders.{well_formed}
@@ -16,28 +18,22 @@ use Rattle.orders.specs.Rows.{empty_row}
 use Rattle.orders.specs.Tables.{place_of, available}
 use Rattle.routing.specs.declared.ticket.Ticket.{Ticket}
 use Rattle.routing.specs.Tickets.{empty_ticket}
-use Rattle.engine.specs.declared.call.Call.{Call}
-use Rattle.engine.specs.declared.call.Call.TheVariants.{Begin, Enter, Cancel, Close, Report, Match, Finish, Abort}
+use Rattle.engine.specs.Asked.{Asked, Begin, Enter, Cancel, Close, Report, Match, Finish, Abort}
 use Rattle.engine.specs.declared.call.Facts.{Facts}
 use Rattle.engine.specs.declared.stage.Stage.{Stage}
 use Rattle.engine.specs.declared.state.Engine.{Engine}
-use Rattle.engine.specs.Limits.{order_rows, quote_rows, ticket_rows, day_end, first_start, last_start, quote_age, cycle_gap, shortest_acceptance, longest_acceptance}
+use Rattle.engine.specs.Limits.{order_rows, day_end, first_start, last_start, quote_age, cycle_gap, shortest_acceptance, longest_acceptance}
 use Rattle.engine.specs.Minimum.{minimum}
 use Rattle.engine.specs.Stages.{is_open, is_acceptance, is_satisfaction, is_matched, closes_at, deadline_of}
-use Rattle.engine.specs.States.{Held, buys_in, sells_in, tickets_in}
+pub use Rattle.engine.specs.States.{sizes_fit}
+use Rattle.engine.specs.States.{TableRows, buys_in, sells_in, tickets_in}
 
 -- a question with the refusal that a "no" gives
 abbrev asks : Bool → Refusal → Question
 asks yes' refusal = record { yes = yes'; refusal = refusal }
 
--- the side tables have 512 rows each, the quote tables 32 each, the ticket table 544
-abbrev pub sizes_fit : Held → Bool
-sizes_fit h =
-    (length h.buys == order_rows && length h.sells == order_rows)
-    && ((length h.bids == quote_rows && length h.offers == quote_rows) && length h.tickets == ticket_rows)
-
 -- the stage that a call needs
-abbrev pub stage_fits : Call → Stage → Bool
+abbrev pub stage_fits : Asked → Stage → Bool
 stage_fits (Begin time order facts) s = is_open s
 stage_fits (Enter order) s = is_acceptance s
 stage_fits (Cancel number) s = is_acceptance s
@@ -55,11 +51,11 @@ not_before (Some last) time = nat_le last time
 abbrev pub time_fits : Engine → ℕ → Bool
 time_fits e time = nat_le time day_end && not_before e.last_time time
 
--- there are a bid and an offer, and no bid is above an offer
+-- there are a bid and an offer, and they are not crossed: they may be locked
 abbrev pub ordered : Option ℕ → Option ℕ → Bool
 ordered None offer = false
 ordered (Some bid) None = false
-ordered (Some bid) (Some offer) = nat_le bid offer
+ordered (Some bid) (Some offer) = not (is_crossed (Some bid) (Some offer))
 
 abbrev pub two_sided : Market → Bool
 two_sided m = ordered (best_price Buy m.bids) (best_price Sell m.offers)
@@ -113,13 +109,13 @@ abbrev pub stands_at : ℕ → List OrderRow → List OrderRow → Option (Side 
 stands_at number buys sells = cond (is_some (place_of number buys)) (at_side Buy (place_of number buys)) (at_side Sell (place_of number sells))
 
 -- an order's number stands on a side of the book
-abbrev pub on_book : Engine → Held → ℕ → Bool
+abbrev pub on_book : Engine → TableRows → ℕ → Bool
 on_book e h number = is_some (place_of number (buys_in e h)) || is_some (place_of number (sells_in e h))
 
 abbrev pub has_room : Engine → Order → Bool
 has_room e o = cond (o.side == 1) (nat_lt e.used.buys order_rows) (nat_lt e.used.sells order_rows)
 
-abbrev pub enter_questions : Engine → Held → Order → List Question
+abbrev pub enter_questions : Engine → TableRows → Order → List Question
 enter_questions e h order =
     asks (well_formed order) OrderForm
     ∷ asks (not (on_book e h order.number)) NumberTaken
@@ -131,11 +127,11 @@ abbrev pub rest_at : Option ℕ → List OrderRow → ℕ
 rest_at None ws = 0
 rest_at (Some place) ws = available (slice_index_or ws place empty_row)
 
-abbrev pub rest_of : Engine → Held → ℕ → ℕ
+abbrev pub rest_of : Engine → TableRows → ℕ → ℕ
 rest_of e h number =
     cond (is_some (place_of number (buys_in e h))) (rest_at (place_of number (buys_in e h)) (buys_in e h)) (rest_at (place_of number (sells_in e h)) (sells_in e h))
 
-abbrev pub cancel_questions : Engine → Held → ℕ → List Question
+abbrev pub cancel_questions : Engine → TableRows → ℕ → List Question
 cancel_questions e h number =
     asks (on_book e h number) UnknownOrder
     ∷ asks (nat_lt 0 (rest_of e h number)) NoRest
@@ -150,27 +146,27 @@ close_questions e m time last =
     ∷ []
 
 -- tickets count from 1
-abbrev pub is_ticket : Engine → Held → ℕ → Bool
+abbrev pub is_ticket : Engine → TableRows → ℕ → Bool
 is_ticket e h ticket = nat_le 1 ticket && nat_le ticket (length (tickets_in e h))
 
-abbrev pub ticket_at : Engine → Held → ℕ → Ticket
+abbrev pub ticket_at : Engine → TableRows → ℕ → Ticket
 ticket_at e h ticket = slice_index_or (tickets_in e h) (ticket - 1) empty_ticket
 
-abbrev pub report_questions : Engine → Held → ℕ → ℕ → List Question
+abbrev pub report_questions : Engine → TableRows → ℕ → ℕ → List Question
 report_questions e h ticket filled =
     asks (is_ticket e h ticket) UnknownTicket
     ∷ asks (not (ticket_at e h ticket).reported) TicketReported
     ∷ asks (nat_le filled (ticket_at e h ticket).shares) TicketFills
     ∷ []
 
-abbrev pub match_questions : Engine → Held → ℕ → List Question
+abbrev pub match_questions : Engine → TableRows → ℕ → List Question
 match_questions e h time =
     asks (time_fits e time) TimeRange
-    ∷ asks (all_by (λ t. t.reported) (tickets_in e h) || nat_le (deadline_of e.stage) time) TicketsOut
+    ∷ asks (list_all (λ t. t.reported) (tickets_in e h) || nat_le (deadline_of e.stage) time) TicketsOut
     ∷ []
 
 -- what each call asks besides
-abbrev pub own_questions : Engine → Market → Held → Call → List Question
+abbrev pub own_questions : Engine → Market → TableRows → Asked → List Question
 own_questions e m h (Begin time order facts) = begin_questions e m time order facts
 own_questions e m h (Enter order) = enter_questions e h order
 own_questions e m h (Cancel number) = cancel_questions e h number
@@ -181,9 +177,9 @@ own_questions e m h (Finish time) = asks (time_fits e time) TimeRange ∷ []
 own_questions e m h (Abort time) = asks (time_fits e time) TimeRange ∷ []
 
 -- the stage first
-abbrev pub stage_questions : Engine → Market → Held → Call → List Question
+abbrev pub stage_questions : Engine → Market → TableRows → Asked → List Question
 stage_questions e m h call = asks (stage_fits call e.stage) WrongStage ∷ own_questions e m h call
 
 -- the questions of a call: the sizes of the tables, the stage, and its own
-abbrev pub questions : Engine → Market → Held → Call → List Question
+abbrev pub questions : Engine → Market → TableRows → Asked → List Question
 questions e m h call = asks (sizes_fit h) TableSizes ∷ stage_questions e m h call

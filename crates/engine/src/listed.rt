@@ -1,26 +1,25 @@
-// The quotes that a close found on both sides, and whether trading is halted.
+//! The quotes that a close found on both sides, and whether trading is halted.
 ghost use Rattle.std.specs.Prelude.{◌≡◌, ◌≤◌, length};
+ghost use Rattle.engine.specs.Limits.{quote_rows};
 
-use market::quote::Quote;
-use market::side::Side;
-use market::source::QuoteSource;
+use market::{Quote, QuoteSource, Side};
 
 #[derive(Clone, Copy)]
 pub(crate) struct Listed<'a> {
     pub(crate) bids: &'a [Quote],
     pub(crate) offers: &'a [Quote],
     pub(crate) halted: bool,
-    ghost bids_few: { length bids.now ≤ 32 },
-    ghost offers_few: { length offers.now ≤ 32 },
+    ghost bids_few: { length bids.now ≤ quote_rows },
+    ghost offers_few: { length offers.now ≤ quote_rows },
 }
 
 impl Listed<'_> {
     ghost use Rattle.market.specs.Markets.{quotes_on};
-    ghost use Rattle.engine.specs.Books.{market_of};
+    ghost use Rattle.engine.specs.Books.{listed_market};
 
     // The quotes of a side.
     pub(crate) fn on(&self, side: Side) -> &[Quote]
-        ensures { result.now ≡ quotes_on side (market_of self.now) }
+        ensures { result.now ≡ quotes_on side (listed_market self.now) }
     {
         match side {
             Side::Buy => self.bids,
@@ -30,9 +29,9 @@ impl Listed<'_> {
 }
 
 impl QuoteSource for Listed<'_> {
-    ghost use Rattle.engine.specs.Books.{market_of};
+    ghost use Rattle.engine.specs.Books.{listed_market};
 
-    ghost meaning = { market_of };
+    ghost meaning = { listed_market };
 
     fn count(&self, side: Side) -> usize {
         self.on(side).len()

@@ -1,4 +1,4 @@
-// The minimum size of a start order.
+//! The minimum size of a start order.
 ghost use Rattle.std.specs.Prelude.{◌≡◌};
 ghost use Rattle.engine.specs.Minimum.{ordinary_minimum, minimum};
 
@@ -59,6 +59,7 @@ fn ordinary_minimum(price: u32) -> u32
         .map_or(LOWEST, |step| step.shares)
 }
 
+/// The least shares of a start order at a price, in points, of an issue of its kind (RULES, "The questions of begin").
 pub fn minimum_size(issue: Issue, price: u32) -> u32
     ensures { result ≡ minimum issue price }
 {

@@ -2,6 +2,7 @@
 use Rattle.std.proofs.Common.{◌≡◌, ℕ, zero, suc, ◌+◌, ◌-◌, ◌*◌, ◌<◌, ◌≤◌, List, ◌∷◌, map, length, take, drop, refl, ap, ◌∙◌, arith, length-drop, length-take}
 use Rattle.std.specs.List.{range_with_len}
 use Rattle.pricing.specs.Books.{levels}
+use Rattle.image.specs.Limits.{most_entries}
 use Rattle.image.specs.Words.{word}
 use Rattle.image.specs.Entries.{level_at, quote_at, length_in, levels_in, quotes_in}
 use Rattle.image.specs.Images.{entries_in, price_in, shares_in, orders_from, quotes_from}
@@ -18,7 +19,7 @@ counted_same_from f g a (suc n) h =
 counted_same : {X : Type 0} (f g : ℕ → X) (m n : ℕ) → m ≡ n → ((k : ℕ) → k < n → f k ≡ g k) → map f (range_with_len 0 m) ≡ map g (range_with_len 0 n)
 counted_same f g m n e h = ap (λ x. map f (range_with_len 0 x)) e ∙ counted_same_from f g 0 n (λ k l. h k (omega arith))
 
-module _ (bs : List ℕ) (n from count : ℕ) (exact : length bs ≡ 16 + 8 * n) (size : n ≡ entries_in bs) (within : from + count ≤ n) (few : count ≤ 512) where
+module _ (bs : List ℕ) (n from count : ℕ) (exact : length bs ≡ 16 + 8 * n) (size : n ≡ entries_in bs) (within : from + count ≤ n) (few : count ≤ most_entries) where
   abbrev prices : List ℕ
   prices = take (4 * count) (drop (4 * from) (take (16 + 4 * n - 16) (drop 16 bs)))
 

@@ -2,9 +2,9 @@
 use Rattle.std.proofs.Common.{◌≡◌, ℕ, zero, suc, ◌<◌, ◌≤◌, ◌++◌, Bool, true, false, Ok, Err, refl, arith}
 use Rattle.pricing.specs.declared.cause.Cause.TheVariants.{NothingToTrade, LockedOrCrossed, NoReference, Halted}
 use Rattle.pricing.specs.Books.{Book}
-use Rattle.pricing.specs.Closing.{Outcome, Closing, Best, reference}
+use Rattle.pricing.specs.Outcomes.{Outcome, IsOutcome, Best, reference}
 use Rattle.pricing.proofs.Outcomes.{undecided_priced}
-use Rattle.image.specs.Words.{le}
+use Rattle.image.specs.Words.{little_endian}
 use Rattle.image.specs.Numbers.{OutcomeSays, Reads}
 
 positive : (n : ℕ) → (n ≡ 0 → ⊥) → 1 ≤ n
@@ -14,7 +14,7 @@ positive (suc n) h = omega arith
 never : {A : Type 0} (t : Bool) → t ≡ false → t ≡ true → A
 never t f e = cc
 
-pub says : (b : Book) (last : ℕ) (x : Outcome) → Closing false b last x → Best b x → OutcomeSays b last x
+pub says : (b : Book) (last : ℕ) (x : Outcome) → IsOutcome false b last x → Best b x → OutcomeSays b last x
 says b last (Err Halted) closing best = absurd (let z : false ≡ true = closing in cc)
 says b last (Err LockedOrCrossed) closing best = record {
   causes = omega arith;
@@ -50,5 +50,5 @@ says b last (Ok x) closing best = record {
 }
 
 -- numbers that fit their bytes are read again
-pub reads : (price cause count : ℕ) → price < 4294967296 → cause < 4294967296 → count < 18446744073709551616 → Reads (le 4 price ++ (le 4 cause ++ le 8 count)) price cause count
+pub reads : (price cause count : ℕ) → price < 4294967296 → cause < 4294967296 → count < 18446744073709551616 → Reads (little_endian 4 price ++ (little_endian 4 cause ++ little_endian 8 count)) price cause count
 reads price cause count p c n = record { price_is = omega arith; cause_is = omega arith; count_is = omega arith }

@@ -1,6 +1,7 @@
+pub mod Limits
 pub mod Words
 pub mod Entries
 pub mod Images
-pub mod Held
+pub mod Readers
 pub mod Answers
 pub mod Numbers

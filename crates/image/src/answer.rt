@@ -1,17 +1,15 @@
-// The answer of image pricing in 16 bytes: price (4), cause (4), count (8), little-endian.
+//! The answer of image pricing in bytes: price (0 to 3), cause (4 to 7) and count (8 to 15), little-endian (docs/FORMATS.md).
 ghost use Rattle.std.specs.Prelude.{◌≡◌, length};
-ghost use Rattle.pricing.specs.Closing.{outcome_number, outcome_price, outcome_count};
+ghost use Rattle.pricing.specs.Outcomes.{outcome_number, outcome_price, outcome_count};
 ghost use Rattle.image.specs.Answers.{outcome_bytes, answer_bytes};
+ghost use Rattle.image.specs.Limits.{answer_length};
 ghost use Rattle.image.specs.Numbers.{Reads};
 
-use pricing::cause::Cause;
-
-// How long an answer is.
-pub const ANSWER: usize = 16;
+use pricing::Cause;
 
 // Price, cause and count, side by side: for C, so the cause is a number.
 fn put_numbers(out: &mut [u8], price: u32, cause: u32, count: u64)
-    requires { length out.old ≡ 16 }
+    requires { length out.old ≡ answer_length }
     ensures bytes { out.new ≡ answer_bytes price cause count }
     ensures read { Reads out.new price cause count }
 {
@@ -22,9 +20,10 @@ fn put_numbers(out: &mut [u8], price: u32, cause: u32, count: u64)
 
 // An outcome; price and count are 0 where there is no price.
 pub(crate) fn put_outcome(out: &mut [u8], outcome: Result<(u32, u64), Cause>)
-    requires { length out.old ≡ 16 }
+    requires { length out.old ≡ answer_length }
     ensures bytes { out.new ≡ outcome_bytes outcome }
-    ensures read { Reads out.new (outcome_price outcome) (outcome_number outcome) (outcome_count outcome) }
+    ensures read { Reads out.new (outcome_price outcome)
+        (outcome_number outcome) (outcome_count outcome) }
 {
     match outcome {
         Ok((price, count)) => put_numbers(out, price, 0, count),

@@ -1,25 +1,21 @@
-// One list of an image: the prices and the shares of its entries, as two parts of the image's bytes.
+//! One list of an image: the prices and the shares of its entries, as two parts of the image's bytes.
 ghost use Rattle.std.specs.Prelude.{◌≡◌, ◌+◌, ◌*◌, ◌<◌, ◌≤◌, length};
 ghost use Rattle.std.specs.Iterator.{YieldsFirst, item_count};
-ghost use Rattle.std.specs.List.{slice_get};
-ghost use Rattle.market.specs.Fits.{all_by};
+ghost use Rattle.std.specs.List.{slice_get, list_all};
+ghost use Rattle.pricing.specs.Limits.{most_executable};
 ghost use Rattle.pricing.specs.Books.{levels, executable_at};
 ghost use Rattle.pricing.specs.Ranges.{next_above};
+ghost use Rattle.image.specs.Limits.{word_length, most_entries};
 ghost use Rattle.image.specs.Entries.{length_in, level_fits};
 
+use crate::limits::{MOST_ENTRIES, WORD};
 use crate::words::word_at;
-use market::limits::HIGHEST_PRICE;
-use market::price::entry_fits;
-use market::quote::Quote;
-use market::side::Side;
-use pricing::level::Level;
-
-// The most entries that a list has.
-pub const MOST_ENTRIES: usize = 512;
+use market::{HIGHEST_PRICE, Quote, Side, entry_fits};
+use pricing::Level;
 
 // An entry as a quote, whose venue is its place plus 1: no conversion, since the entry does not know its place.
 fn quote_of(level: Level, place: usize) -> Quote
-    requires { place < 512 }
+    requires { place < most_entries }
     ensures { result ≡ record { price = level.price; shares = level.shares; venue = place + 1 } }
 {
     Quote {
@@ -29,14 +25,15 @@ fn quote_of(level: Level, place: usize) -> Quote
     }
 }
 
-// Whether an entry has a permitted price and 1 to 1,000,000 shares.
+// Whether an entry has a permitted price, and shares that an order may have.
 fn fits(level: Level) -> bool
     ensures { result ≡ level_fits level }
 {
     entry_fits(level.price, level.shares)
 }
 
-// The image's format puts all prices before all shares, so an entry's two words lie in two places.
+/// A list of an image: orders or quotes of a side. All prices of an image come before all shares, so the two words of an entry lie
+/// in two places (docs/FORMATS.md).
 #[derive(Clone, Copy, Debug, PartialEq, Eq)]
 pub struct Entries<'a> {
     pub(crate) prices: &'a [u8],
@@ -44,21 +41,22 @@ pub struct Entries<'a> {
 }
 
 impl<'a> Entries<'a> {
-    ghost use Rattle.image.specs.Held.{levels_of, quotes_of, levels_left};
+    ghost use Rattle.image.specs.Readers.{levels_of, quotes_of, levels_left};
 
+    /// How many entries it has: one for each word of both parts.
     pub fn len(&self) -> usize
         ensures is { result ≡ length (levels_of self.now) }
         ensures sized { result ≡ length_in self.now.prices.now self.now.shares.now }
-        ensures few { result ≤ 512 }
-        ensures prices { 4 * result ≤ length self.now.prices.now }
-        ensures shares { 4 * result ≤ length self.now.shares.now }
+        ensures few { result ≤ most_entries }
+        ensures prices { word_length * result ≤ length self.now.prices.now }
+        ensures shares { word_length * result ≤ length self.now.shares.now }
     {
-        (self.prices.len() / 4)
-            .min(self.shares.len() / 4)
+        (self.prices.len() / WORD)
+            .min(self.shares.len() / WORD)
             .min(MOST_ENTRIES)
     }
 
-    // The entry at a place, counted from 0; none past the end.
+    /// The entry at a place, counted from 0: its price in points, and its shares; none past the end.
     pub fn get(&self, place: usize) -> Option<Level>
         ensures { result ≡ slice_get (levels_of self.now) place }
     {
@@ -71,7 +69,7 @@ impl<'a> Entries<'a> {
         })
     }
 
-    // The entry at a place as a quote, whose venue is its place plus 1.
+    /// The entry at a place, counted from 0, as a quote whose venue is its place plus 1; none past the end.
     pub fn quote(&self, place: usize) -> Option<Quote>
         ensures { result ≡ slice_get (quotes_of self.now) place }
     {
@@ -79,7 +77,7 @@ impl<'a> Entries<'a> {
         Some(quote_of(level, place))
     }
 
-    // Its entries in their order.
+    /// Its entries in their order.
     pub fn levels(&self) -> Levels<'a>
         ensures { levels_left result ≡ levels_of self.now }
     {
@@ -89,19 +87,19 @@ impl<'a> Entries<'a> {
         }
     }
 
-    // The shares that can trade at a price: `executable` of slices in the words of an iterator, here and in `next_above`. One
-    // function over any iterator of levels would have to say what it yields, in more lines than these chains have.
+    /// The shares of a side that can trade at a price, in points: `executable` of slices in the words of an iterator, here and in
+    /// `next_above`. One function over any iterator of levels would have to say what it yields, in more lines than these chains have.
     pub fn executable(&self, side: Side, price: u32) -> u64
         ensures is { result ≡ executable_at side price (levels_of self.now) }
         ensures quoted { result ≡ executable_at side price (levels (quotes_of self.now)) }
-        ensures few { result ≤ 4294967295 * 512 }
+        ensures few { result ≤ most_executable }
     {
         self.levels()
             .map(|level| u64::from(level.executable(side, price)))
             .sum()
     }
 
-    // The lowest price above `price` at which shares stand, at most the highest price there is.
+    /// The lowest price above `price` at which shares stand, in points, at most the highest price there is.
     pub fn next_above(&self, price: u32) -> u32
         ensures is { result ≡ next_above price (levels_of self.now) }
         ensures quoted { result ≡ next_above price (levels (quotes_of self.now)) }
@@ -111,15 +109,15 @@ impl<'a> Entries<'a> {
             .fold(HIGHEST_PRICE, |least, next| least.min(next))
     }
 
-    // Whether each entry has a permitted price and 1 to 1,000,000 shares.
+    /// Whether each entry has a permitted price, and shares that an order may have.
     pub fn fit(&self) -> bool
-        ensures { result ≡ all_by level_fits (levels_of self.now) }
+        ensures { result ≡ list_all level_fits (levels_of self.now) }
     {
         self.levels().fold(true, |ok, level| ok & fits(level))
     }
 }
 
-// The entries of a list from a place on: bytes are read by place.
+/// The entries of a list from a place on, as an iterator that reads the bytes place by place.
 #[derive(Clone, Copy, Debug, PartialEq, Eq)]
 pub struct Levels<'a> {
     entries: Entries<'a>,
@@ -129,7 +127,7 @@ pub struct Levels<'a> {
 impl Iterator for Levels<'_> {
     type Item = Level;
 
-    ghost use Rattle.image.specs.Held.{levels_left};
+    ghost use Rattle.image.specs.Readers.{levels_left};
 
     ghost next_gives = { YieldsFirst levels_left };
 

@@ -6,8 +6,8 @@ use Rattle.std.proofs.lemmas.Bool.Decides.{nat_tests}
 use Rattle.market.specs.declared.quote.Quote.{Quote}
 use Rattle.market.specs.declared.side.Side.{Side}
 use Rattle.market.specs.declared.side.Side.TheVariants.{Buy, Sell}
-use Rattle.market.specs.Best.{better, best_of}
-use Rattle.market.specs.Marks.{Rising}
+use Rattle.market.specs.Best.{better_price, best_of}
+use Rattle.market.specs.Listings.{Rising}
 use Rattle.market.specs.Venues.{quoted, without}
 use Rattle.market.specs.Laws.{quote_by, SetsVenue, ClearsVenue, is_better, BestIsBest}
 
@@ -42,11 +42,11 @@ pub clears : ClearsVenue
 clears u xs r = record { own = clear_own u xs r; others = λ v ne. clear_others u v ne xs }
 
 -- the best of a price and some quotes' is no worse than any of them
-no_better : (side : Side) (a b c : ℕ) → is_better side (better side a b) c ≡ false → (is_better side a c ≡ false) × (is_better side b c ≡ false)
+no_better : (side : Side) (a b c : ℕ) → is_better side (better_price side a b) c ≡ false → (is_better side a c ≡ false) × (is_better side b c ≡ false)
 no_better Buy a b c h = (grind (arith, nat_tests), grind (arith, nat_tests))
 no_better Sell a b c h = (grind (arith, nat_tests), grind (arith, nat_tests))
 
-either : (side : Side) (a b : ℕ) → (better side a b ≡ a) ⊎ (better side a b ≡ b)
+either : (side : Side) (a b : ℕ) → (better_price side a b ≡ a) ⊎ (better_price side a b ≡ b)
 either Buy a b = grind (arith, nat_tests)
 either Sell a b = grind (arith, nat_tests)
 
@@ -62,7 +62,7 @@ at_back p x xs (k, y, lt, is, e) = (suc k, y, omega (arith, lt), is, e)
 
 found : (side : Side) (p : ℕ) (xs : List Quote) → (best_of side p xs ≡ p) ⊎ Any (λ x. x.price ≡ best_of side p xs) xs
 found side p [] = inl refl
-found side p (x ∷ xs) = elim (found side (better side p x.price) xs) [
+found side p (x ∷ xs) = elim (found side (better_price side p x.price) xs) [
   | inr later ↦ inr (at_back _ x xs later)
   | inl is ↦ elim (either side p x.price) [
     | inl first ↦ inl (is ∙ first)
@@ -72,13 +72,13 @@ found side p (x ∷ xs) = elim (found side (better side p x.price) xs) [
 
 first_no_better : (side : Side) (p : ℕ) (xs : List Quote) → is_better side p (best_of side p xs) ≡ false
 first_no_better side p [] = itself side p
-first_no_better side p (x ∷ xs) = (no_better side p x.price (best_of side (better side p x.price) xs) (first_no_better side (better side p x.price) xs)).0
+first_no_better side p (x ∷ xs) = (no_better side p x.price (best_of side (better_price side p x.price) xs) (first_no_better side (better_price side p x.price) xs)).0
 
 all_no_better : (side : Side) (p : ℕ) (xs : List Quote) → AllByRecursion (λ x. is_better side x.price (best_of side p xs) ≡ false) xs
 all_no_better side p [] = tt
 all_no_better side p (x ∷ xs) = (
-  (no_better side p x.price (best_of side (better side p x.price) xs) (first_no_better side (better side p x.price) xs)).1,
-  all_no_better side (better side p x.price) xs,
+  (no_better side p x.price (best_of side (better_price side p x.price) xs) (first_no_better side (better_price side p x.price) xs)).1,
+  all_no_better side (better_price side p x.price) xs,
 )
 
 pub best_is : BestIsBest

@@ -6,15 +6,15 @@ use Rattle.std.specs.Fn.{Called}
 use Rattle.std.specs.Iterator.{FoldTurn, ReducesItems}
 use Rattle.std.specs.List.{fold, reduce, FoldsTo}
 use denote.Param.Members.{Mut}
-use Rattle.market.specs.Best.{better, best_of, best_price}
+use Rattle.market.specs.Best.{better_price, best_of, best_price}
 use Rattle.market.specs.declared.quote.Quote.{Quote}
 use Rattle.market.specs.declared.side.Side.{Side}
 
-folded : (side : Side) (p : ℕ) (xs : List Quote) → fold (better side) p (map (λ x. x.price) xs) ≡ best_of side p xs
+folded : (side : Side) (p : ℕ) (xs : List Quote) → fold (better_price side) p (map (λ x. x.price) xs) ≡ best_of side p xs
 folded side p [] = refl
-folded side p (x ∷ xs) = folded side (better side p x.price) xs
+folded side p (x ∷ xs) = folded side (better_price side p x.price) xs
 
-pub best_reduced : (side : Side) (xs : List Quote) → reduce (better side) (map (λ x. x.price) xs) ≡ best_price side xs
+pub best_reduced : (side : Side) (xs : List Quote) → reduce (better_price side) (map (λ x. x.price) xs) ≡ best_price side xs
 best_reduced side [] = refl
 best_reduced side (x ∷ xs) = ap Some (folded side x.price xs)
 

@@ -6,23 +6,23 @@ use Rattle.std.proofs.lemmas.Bool.{le-ltb, lt-ltb, eq-eqb, ne_eqb}
 use Rattle.std.proofs.lemmas.List.Sums.{length-filter}
 use Rattle.std.proofs.ByRecursion.{All-weaker}
 use Rattle.market.specs.Limits.{venues}
-use Rattle.market.specs.Marks.{listed, quote_of, Rising, OfVenue, WellListed}
-use Rattle.market.specs.Venues.{quoted, without, marked, market_in, ByVenue}
-use Rattle.market.specs.declared.mark.Mark.{Mark}
+use Rattle.market.specs.Listings.{quotes_listed, quote_of, Rising, OfVenue, WellListed}
+use Rattle.market.specs.Venues.{quoted, without, with_terms, market_in, ByVenue}
+use Rattle.market.specs.declared.terms.QuoteTerms.{QuoteTerms}
 use Rattle.market.specs.declared.venues.VenueTable.{VenueTable}
 use Rattle.market.specs.declared.quote.Quote.{Quote}
 
--- as many quotes as marks
-marks_listed : (v : ℕ) (slots : List (Option Mark)) → length (listed v slots) ≡ length (filter is_some slots)
-marks_listed v [] = refl
-marks_listed v (None ∷ slots) = marks_listed (v + 1) slots
-marks_listed v (Some m ∷ slots) = ap suc (marks_listed (v + 1) slots)
+-- as many quotes as slots with terms
+slots_listed : (v : ℕ) (slots : List (Option QuoteTerms)) → length (quotes_listed v slots) ≡ length (filter is_some slots)
+slots_listed v [] = refl
+slots_listed v (None ∷ slots) = slots_listed (v + 1) slots
+slots_listed v (Some m ∷ slots) = ap suc (slots_listed (v + 1) slots)
 
-pub length_listed : (v : ℕ) (slots : List (Option Mark)) → length (listed v slots) ≡ count_by is_some slots
-length_listed v slots = marks_listed v slots ∙ length-filter is_some slots
+pub length_listed : (v : ℕ) (slots : List (Option QuoteTerms)) → length (quotes_listed v slots) ≡ count_by is_some slots
+length_listed v slots = slots_listed v slots ∙ length-filter is_some slots
 
 -- the quotes, each by its slot and its venue
-pub listed_zip : (v n : ℕ) (slots : List (Option Mark)) → length slots ≡ n → filter_map (λ p. option_map (λ m. quote_of m p.0) p.1) (zip (range_with_len v n) slots) ≡ listed v slots
+pub listed_zip : (v n : ℕ) (slots : List (Option QuoteTerms)) → length slots ≡ n → filter_map (λ p. option_map (λ m. quote_of m p.0) p.1) (zip (range_with_len v n) slots) ≡ quotes_listed v slots
 listed_zip v zero [] e = refl
 listed_zip v (suc n) [] e = absurd (omega arith)
 listed_zip v zero (slot ∷ slots) e = absurd (omega arith)
@@ -30,32 +30,32 @@ listed_zip v (suc n) (None ∷ slots) e = listed_zip (v + 1) n slots (omega arit
 listed_zip v (suc n) (Some m ∷ slots) e = ap (λ l. quote_of m v ∷ l) (listed_zip (v + 1) n slots (omega arith))
 
 -- a quote of an earlier venue goes in front
-quoted_first : (q : Quote) (b : ℕ) (slots : List (Option Mark)) → q.venue < b → quoted q (listed b slots) ≡ q ∷ listed b slots
+quoted_first : (q : Quote) (b : ℕ) (slots : List (Option QuoteTerms)) → q.venue < b → quoted q (quotes_listed b slots) ≡ q ∷ quotes_listed b slots
 quoted_first q b [] h = refl
 quoted_first q b (None ∷ slots) h = quoted_first q (b + 1) slots (omega arith)
 quoted_first q b (Some m ∷ slots) h = rw (le-ltb b q.venue (omega arith), ne_eqb b q.venue (λ z. omega arith))
 
--- a mark that is written to a slot
-pub listed_set : (m : Mark) (a i v : ℕ) (slots : List (Option Mark)) → a + i ≡ v → i < length slots → listed a (set slots i (Some m)) ≡ quoted (quote_of m v) (listed a slots)
+-- terms that are written to a slot
+pub listed_set : (m : QuoteTerms) (a i v : ℕ) (slots : List (Option QuoteTerms)) → a + i ≡ v → i < length slots → quotes_listed a (set slots i (Some m)) ≡ quoted (quote_of m v) (quotes_listed a slots)
 listed_set m a i v [] e h = absurd (omega arith)
 listed_set m a zero v (None ∷ slots) e h =
     let same : a ≡ v = omega arith in
-    ap (λ u. quote_of m u ∷ listed (a + 1) slots) same ∙ sym (quoted_first (quote_of m v) (a + 1) slots (omega arith))
+    ap (λ u. quote_of m u ∷ quotes_listed (a + 1) slots) same ∙ sym (quoted_first (quote_of m v) (a + 1) slots (omega arith))
 listed_set m a zero v (Some y ∷ slots) e h =
     let same : a ≡ v = omega arith in
-    rw (le-ltb a v (omega arith), eq-eqb a v same) (ap (λ u. quote_of m u ∷ listed (a + 1) slots) same)
+    rw (le-ltb a v (omega arith), eq-eqb a v same) (ap (λ u. quote_of m u ∷ quotes_listed (a + 1) slots) same)
 listed_set m a (suc i) v (None ∷ slots) e h = listed_set m (a + 1) i v slots (omega arith) (omega arith)
 listed_set m a (suc i) v (Some y ∷ slots) e h =
     rw (lt-ltb a v (omega arith)) (ap (λ l. quote_of y a ∷ l) (listed_set m (a + 1) i v slots (omega arith) (omega arith)))
 
 -- a venue before the first slot's has no quote
-without_first : (v b : ℕ) (slots : List (Option Mark)) → v < b → without v (listed b slots) ≡ listed b slots
+without_first : (v b : ℕ) (slots : List (Option QuoteTerms)) → v < b → without v (quotes_listed b slots) ≡ quotes_listed b slots
 without_first v b [] h = refl
 without_first v b (None ∷ slots) h = without_first v (b + 1) slots (omega arith)
 without_first v b (Some m ∷ slots) h = rw (ne_eqb b v (λ z. omega arith)) (ap (λ l. quote_of m b ∷ l) (without_first v (b + 1) slots (omega arith)))
 
 -- a slot that is emptied
-pub listed_clear : (a i v : ℕ) (slots : List (Option Mark)) → a + i ≡ v → i < length slots → listed a (set slots i None) ≡ without v (listed a slots)
+pub listed_clear : (a i v : ℕ) (slots : List (Option QuoteTerms)) → a + i ≡ v → i < length slots → quotes_listed a (set slots i None) ≡ without v (quotes_listed a slots)
 listed_clear a i v [] e h = absurd (omega arith)
 listed_clear a zero v (None ∷ slots) e h = sym (without_first v (a + 1) slots (omega arith))
 listed_clear a zero v (Some y ∷ slots) e h = rw (eq-eqb a v (omega arith))
@@ -63,29 +63,29 @@ listed_clear a (suc i) v (None ∷ slots) e h = listed_clear (a + 1) i v slots (
 listed_clear a (suc i) v (Some y ∷ slots) e h =
     rw (ne_eqb a v (λ z. omega arith)) (ap (λ l. quote_of y a ∷ l) (listed_clear (a + 1) i v slots (omega arith) (omega arith)))
 
-pub listed_put : (mark : Option Mark) (a i v : ℕ) (slots : List (Option Mark)) → a + i ≡ v → i < length slots → listed a (set slots i mark) ≡ marked v mark (listed a slots)
+pub listed_put : (terms : Option QuoteTerms) (a i v : ℕ) (slots : List (Option QuoteTerms)) → a + i ≡ v → i < length slots → quotes_listed a (set slots i terms) ≡ with_terms v terms (quotes_listed a slots)
 listed_put None = listed_clear
 listed_put (Some m) = listed_set m
 
 -- the list goes by rising venue
-listed_from : (v : ℕ) (slots : List (Option Mark)) → AllByRecursion (λ x. v ≤ x.venue) (listed v slots)
+listed_from : (v : ℕ) (slots : List (Option QuoteTerms)) → AllByRecursion (λ x. v ≤ x.venue) (quotes_listed v slots)
 listed_from v [] = tt
-listed_from v (None ∷ slots) = All-weaker (λ x. v + 1 ≤ x.venue) (λ x. v ≤ x.venue) (λ x h. omega arith) (listed (v + 1) slots) (listed_from (v + 1) slots)
-listed_from v (Some m ∷ slots) = (omega arith, All-weaker (λ x. v + 1 ≤ x.venue) (λ x. v ≤ x.venue) (λ x h. omega arith) (listed (v + 1) slots) (listed_from (v + 1) slots))
+listed_from v (None ∷ slots) = All-weaker (λ x. v + 1 ≤ x.venue) (λ x. v ≤ x.venue) (λ x h. omega arith) (quotes_listed (v + 1) slots) (listed_from (v + 1) slots)
+listed_from v (Some m ∷ slots) = (omega arith, All-weaker (λ x. v + 1 ≤ x.venue) (λ x. v ≤ x.venue) (λ x h. omega arith) (quotes_listed (v + 1) slots) (listed_from (v + 1) slots))
 
-pub listed_rising : (v : ℕ) (slots : List (Option Mark)) → Rising (listed v slots)
+pub listed_rising : (v : ℕ) (slots : List (Option QuoteTerms)) → Rising (quotes_listed v slots)
 listed_rising v [] = tt
 listed_rising v (None ∷ slots) = listed_rising (v + 1) slots
-listed_rising v (Some m ∷ slots) = (All-weaker (λ x. v + 1 ≤ x.venue) (λ x. v < x.venue) (λ x h. omega arith) (listed (v + 1) slots) (listed_from (v + 1) slots), listed_rising (v + 1) slots)
+listed_rising v (Some m ∷ slots) = (All-weaker (λ x. v + 1 ≤ x.venue) (λ x. v < x.venue) (λ x h. omega arith) (quotes_listed (v + 1) slots) (listed_from (v + 1) slots), listed_rising (v + 1) slots)
 
 pub by_venue : (t : VenueTable) → ByVenue (market_in t)
 by_venue t = record { bids_rise = t.bids_listed.rise; offers_rise = t.offers_listed.rise }
 
 -- each quote of the list is of a venue that has a slot, and fits
-listed_each : (v : ℕ) (slots : List (Option Mark)) → 1 ≤ v → v + length slots ≤ venues + 1 → AllByRecursion OfVenue (listed v slots)
+listed_each : (v : ℕ) (slots : List (Option QuoteTerms)) → 1 ≤ v → v + length slots ≤ venues + 1 → AllByRecursion OfVenue (quotes_listed v slots)
 listed_each v [] low high = tt
 listed_each v (None ∷ slots) low high = listed_each (v + 1) slots (omega arith) (omega arith)
 listed_each v (Some m ∷ slots) low high = (record { first = low; last = omega arith; fit = m.fit }, listed_each (v + 1) slots (omega arith) (omega arith))
 
-pub well_listed : (slots : List (Option Mark)) → length slots ≡ venues → WellListed (listed 1 slots)
+pub well_listed : (slots : List (Option QuoteTerms)) → length slots ≡ venues → WellListed (quotes_listed 1 slots)
 well_listed slots long = record { rise = listed_rising 1 slots; each = listed_each 1 slots (omega arith) (omega arith) }

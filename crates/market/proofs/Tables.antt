@@ -1,13 +1,13 @@
 -- What a table of venues lists, and what set and clear do to it, said by venue.
 use Rattle.std.proofs.Common.{◌≡◌, ℕ, ◌+◌, ◌<◌, ◌≤◌, true, List, [], ◌∷◌, length, Some, None, Option, subst, sym, refl, arith}
-use Rattle.std.specs.List.{AllByRecursion}
+use Rattle.std.specs.List.{AllByRecursion, list_all}
 use Rattle.std.proofs.ByRecursion.{All-weaker}
 use Rattle.std.proofs.lemmas.Bool.{and_from, le-leb}
 use Rattle.market.specs.declared.quote.Quote.{Quote}
 use Rattle.market.specs.declared.venues.VenueTable.{VenueTable}
-use Rattle.market.specs.Fits.{all_by, quote_fits, side_fits}
+use Rattle.market.specs.Fits.{quote_fits, side_fits}
 use Rattle.market.specs.Limits.{venues, most_quotes}
-use Rattle.market.specs.Marks.{Rising, OfVenue, WellListed}
+use Rattle.market.specs.Listings.{Rising, OfVenue, WellListed}
 use Rattle.market.specs.Markets.{Market}
 use Rattle.market.specs.Venues.{market_in, quoted, without, changed}
 use Rattle.market.specs.Laws.{Becomes, Changes, Tables}
@@ -22,14 +22,14 @@ few_from v (x ∷ xs) rise each from high =
     let rest = few_from (v + 1) xs rise.1 each.1 (All-weaker (λ y. x.venue < y.venue) (λ y. v + 1 ≤ y.venue) (λ y h. omega arith) xs rise.0) (omega arith) in
     omega arith
 
-each_fits : (xs : List Quote) → AllByRecursion OfVenue xs → all_by quote_fits xs ≡ true
+each_fits : (xs : List Quote) → AllByRecursion OfVenue xs → list_all quote_fits xs ≡ true
 each_fits [] each = refl
-each_fits (x ∷ xs) each = and_from (quote_fits x) (all_by quote_fits xs) each.0.fit (each_fits xs each.1)
+each_fits (x ∷ xs) each = and_from (quote_fits x) (list_all quote_fits xs) each.0.fit (each_fits xs each.1)
 
 listed_fit : (xs : List Quote) → WellListed xs → side_fits xs ≡ true
 listed_fit xs l =
     let few = few_from 1 xs l.rise l.each (All-weaker OfVenue (λ x. 1 ≤ x.venue) (λ x h. h.first) xs l.each) (omega arith) in
-    and_from _ (all_by quote_fits xs) (le-leb (length xs) most_quotes (omega arith)) (each_fits xs l.each)
+    and_from _ (list_all quote_fits xs) (le-leb (length xs) most_quotes (omega arith)) (each_fits xs l.each)
 
 pub tables : Tables
 tables t = record {
@@ -46,7 +46,7 @@ changes venue side n q f t after becomes same e =
     (subst (λ m. Changes venue n q (market_in t) m) (sym e) (record {
       bid = λ one. rw one (becomes _ t.bids_listed.rise, refl);
       offer = λ two. rw two (becomes _ t.offers_listed.rise, refl);
-      mark = refl;
+      halted = refl;
     }))
 
 pub set_changes : (q : Quote) (side n : ℕ) (t : VenueTable) (after : Market) → n ≡ side → after ≡ changed true n (quoted q) (market_in t) → Changes q.venue side (Some q) (market_in t) after

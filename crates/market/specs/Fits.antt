@@ -6,16 +6,14 @@ use Rattle.market.specs.Limits.{most_quotes}
 use Rattle.market.specs.Markets.{Market}
 use Rattle.market.specs.Prices.{fits}
 
--- each item passes a test
-abbrev pub all_by : {X : Type 0} → (X → Bool) → List X → Bool
-all_by p xs = list_all p xs
-
+-- a quote has a price and shares that it may have
 abbrev pub quote_fits : Quote → Bool
 quote_fits x = fits x.price x.shares
 
--- at most 32 quotes, each with a permitted price and 1 to 1,000,000 shares
+-- at most as many quotes as a source may list, each of which fits
 abbrev pub side_fits : List Quote → Bool
-side_fits xs = nat_le (length xs) most_quotes && all_by quote_fits xs
+side_fits xs = nat_le (length xs) most_quotes && list_all quote_fits xs
 
+-- both sides fit
 abbrev pub quotes_fit : Market → Bool
 quotes_fit m = side_fits m.bids && side_fits m.offers

@@ -6,12 +6,13 @@ use Rattle.market.specs.declared.quote.Quote.{Quote}
 use Rattle.market.specs.declared.side.Side.{Side}
 use Rattle.market.specs.declared.side.Side.TheVariants.{Buy, Sell}
 use Rattle.market.specs.declared.venues.VenueTable.{VenueTable}
+use Rattle.market.specs.Limits.{most_shares, most_quotes}
 use Rattle.market.specs.Markets.{Market}
 use Rattle.market.specs.Prices.{Permitted, fits}
 use Rattle.market.specs.Fits.{quotes_fit}
 use Rattle.market.specs.Best.{best_price}
 use Rattle.market.specs.Rankings.{higher, lower, quote_ahead}
-use Rattle.market.specs.Marks.{Rising, WellListed}
+use Rattle.market.specs.Listings.{Rising, WellListed}
 use Rattle.market.specs.Venues.{quoted, without, market_in}
 
 -- the quote of a venue in a list
@@ -43,9 +44,9 @@ pub record Becomes (venue : ℕ) (q : Option Quote) (before after : List Quote) 
 pub record Changes (venue side : ℕ) (q : Option Quote) (before after : Market) : Type 0 where
   pub bid : side ≡ 1 → Becomes venue q before.bids after.bids × (after.offers ≡ before.offers)
   pub offer : side ≡ 2 → Becomes venue q before.offers after.offers × (after.bids ≡ before.bids)
-  pub mark : after.halted ≡ before.halted
+  pub halted : after.halted ≡ before.halted
 
--- whoever has a table knows what each side lists, and that its quotes fit, so there are at most 32
+-- whoever has a table knows what each side lists, and that its quotes fit, so there are no more than a source may list
 pub record TableLaw (m : Market) : Type 0 where
   pub bids : WellListed m.bids
   pub offers : WellListed m.offers
@@ -65,7 +66,8 @@ pub record IsBest (side : Side) (xs : List Quote) (p : ℕ) : Type 0 where
   pub none_better : AllByRecursion (λ x. is_better side x.price p ≡ false) xs
 
 abbrev pub BestIsBest : Type 0
-BestIsBest = (side : Side) (xs : List Quote) → MatchOption (best_price side xs) (xs ≡ []) (IsBest side xs)
+BestIsBest = (side : Side) (xs : List Quote)
+    → MatchOption (best_price side xs) (xs ≡ []) (IsBest side xs)
 
 -- bids go by higher price and offers by lower price, and quotes of one price by lower venue
 pub record QuoteRanks (a b : Quote) : Type 0 where
@@ -92,14 +94,15 @@ pub record FromDollar (p : ℕ) : Type 0 where
 abbrev pub PriceGrid : Type 0
 PriceGrid = (p : ℕ) → Permitted p ↔ (BelowDollar p ⊎ FromDollar p)
 
--- an order or quote fits with a permitted price and 1 to 1,000,000 shares
+-- an order or quote fits with a permitted price, and from one share to the most
 abbrev pub EntryFits : Type 0
-EntryFits = (price shares : ℕ) → fits price shares ≡ true ↔ Permitted price × (1 ≤ shares) × (shares ≤ 1000000)
+EntryFits = (price shares : ℕ)
+    → fits price shares ≡ true ↔ Permitted price × (1 ≤ shares) × (shares ≤ most_shares)
 
--- a list of quotes fits with at most 32, each with a permitted price and 1 to 1,000,000 shares
+-- a list of quotes fits with at most as many as a source may list, each of which fits
 pub record ListFits (xs : List Quote) : Type 0 where
-  pub few : length xs ≤ 32
-  pub each : AllByRecursion (λ x. Permitted x.price × (1 ≤ x.shares) × (x.shares ≤ 1000000)) xs
+  pub few : length xs ≤ most_quotes
+  pub each : AllByRecursion (λ x. Permitted x.price × (1 ≤ x.shares) × (x.shares ≤ most_shares)) xs
 
 abbrev pub QuotesFit : Type 0
 QuotesFit = (m : Market) → quotes_fit m ≡ true ↔ ListFits m.bids × ListFits m.offers

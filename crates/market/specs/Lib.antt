@@ -7,8 +7,8 @@ pub mod Best
 pub mod Refusals
 pub mod Questions
 pub mod Quotes
-pub mod Marks
-pub mod MarkLaws
+pub mod Listings
+pub mod ListingLaws
 pub mod Venues
 pub mod Rankings
 pub mod RankingLaws

@@ -1,7 +1,7 @@
--- The limits of the market, each once.
-use Rattle.std.specs.Prelude.{ℕ}
+-- The limits of the market, each once, and what each is.
+use Rattle.std.specs.Prelude.{◌≡◌, ℕ}
 
--- the lowest and the highest price, in points
+-- the lowest and the highest price, in points, 20,000 to the dollar
 abbrev pub lowest_price : ℕ
 lowest_price = 2
 
@@ -34,3 +34,15 @@ most_quotes = 32
 -- how many venues a venue table has room for, numbered from 1
 abbrev pub venues : ℕ
 venues = 32
+
+-- what each limit is: all else names it
+pub record MarketLimits : Type 0 where
+  pub lowest : lowest_price ≡ 2
+  pub highest : highest_price ≡ 4000000000
+  pub dollars : dollar ≡ 20000
+  pub steps : fine_step ≡ 2
+  pub cents : cent ≡ 200
+  pub shares : most_shares ≡ 1000000
+  pub orders : most_orders ≡ 512
+  pub quotes : most_quotes ≡ 32
+  pub venue_slots : venues ≡ 32

@@ -24,13 +24,17 @@ module _ (better : ℕ → ℕ → Bool) (laws : IsPriceOrder better) where
   pub quote_apart : (a b : Quote) → quote_ahead better a b ≡ true → quote_ahead better b a ≡ false
   quote_apart a b h = let same = laws.apart a.price b.price in grind (arith, nat_tests)
 
-  pub quote_through : (a b c : Quote) → quote_ahead better a b ≡ true → quote_ahead better b c ≡ true → quote_ahead better a c ≡ true
+  pub quote_through : (a b c : Quote) → quote_ahead better a b ≡ true → quote_ahead better b c ≡ true
+      → quote_ahead better a c ≡ true
   quote_through a b c h k =
       let p = laws.through a.price b.price c.price in
       let q = laws.apart a.price b.price in
       grind (arith, nat_tests)
 
-  pub quote_level : (a b c : Quote) → quote_ahead better a b ≡ false → quote_ahead better b a ≡ false → quote_ahead better b c ≡ false → quote_ahead better c b ≡ false → quote_ahead better a c ≡ false
+  pub quote_level : (a b c : Quote)
+      → quote_ahead better a b ≡ false → quote_ahead better b a ≡ false
+      → quote_ahead better b c ≡ false → quote_ahead better c b ≡ false
+      → quote_ahead better a c ≡ false
   quote_level a b c h k l m =
       let p = laws.either a.price b.price in
       let q = laws.either b.price c.price in

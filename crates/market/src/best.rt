@@ -1,14 +1,14 @@
-// The best quote of a side: the highest bid, the lowest offer.
+//! The best quote of a side: the highest bid, the lowest offer.
 ghost use Rattle.std.specs.Prelude.{◌≡◌};
 ghost use Rattle.market.specs.Markets.{quotes_on};
-ghost use Rattle.market.specs.Best.{better, best_price};
+ghost use Rattle.market.specs.Best.{better_price, best_price};
 
 use crate::side::Side;
 use crate::source::QuoteSource;
 
 // The better of two prices for a side.
 fn better_price(side: Side, a: u32, b: u32) -> u32
-    ensures { result ≡ better side a b }
+    ensures { result ≡ better_price side a b }
 {
     match side {
         Side::Buy => a.max(b),
@@ -16,7 +16,7 @@ fn better_price(side: Side, a: u32, b: u32) -> u32
     }
 }
 
-// The best price quoted on a side; none where nothing is quoted.
+/// The best price quoted on a side, in points: the highest bid, the lowest offer; none where nothing is quoted.
 pub fn best_price<S: QuoteSource>(source: &S, side: Side) -> Option<u32>
     ensures { result ≡ best_price side (quotes_on side (S.meaning source.now)) }
 {

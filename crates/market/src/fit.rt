@@ -1,4 +1,4 @@
-// Do the quotes of a source fit?
+//! Whether the quotes of a source fit.
 ghost use Rattle.std.specs.Prelude.{◌≡◌};
 ghost use Rattle.market.specs.Markets.{quotes_on};
 ghost use Rattle.market.specs.Fits.{quote_fits, side_fits, quotes_fit};
@@ -15,14 +15,15 @@ fn quote_fits(quote: Quote) -> bool
     entry_fits(quote.price, quote.shares)
 }
 
-// At most 32 quotes on a side, each with a permitted price and 1 to 1,000,000 shares.
+// At most as many quotes on a side as a source may list, each with a price and shares that a quote may have.
 fn side_fits<S: QuoteSource>(source: &S, side: Side) -> bool
     ensures { result ≡ side_fits (quotes_on side (S.meaning source.now)) }
 {
     source.count(side) <= MOST_QUOTES && source.quotes(side).all(quote_fits)
 }
 
-// Whether both sides of a source fit.
+/// Whether both sides of a source fit: no more quotes than a source may list, each with a price and shares that a quote may have
+/// (docs/RULES.md, "Sides and quotes").
 pub fn quotes_fit<S: QuoteSource>(source: &S) -> bool
     ensures { result ≡ quotes_fit (S.meaning source.now) }
 {

@@ -1,10 +1,10 @@
-// Prices are whole points, 20,000 to the dollar.
+//! Prices are whole points, 20,000 to the dollar.
 ghost use Rattle.std.specs.Prelude.{◌≡◌};
 ghost use Rattle.market.specs.Prices.{permitted, fits};
 
 use crate::limits::{CENT, DOLLAR, FINE_STEP, HIGHEST_PRICE, LOWEST_PRICE, MOST_SHARES};
 
-// Whether orders and quotes may stand at a price. Written without branches: it runs over whole images.
+/// Whether orders and quotes may stand at a price, in points (docs/RULES.md, "Prices and shares"). Written without branches: it runs over whole images.
 pub fn price_permitted(price: u32) -> bool
     ensures { result ≡ permitted price }
 {
@@ -13,7 +13,7 @@ pub fn price_permitted(price: u32) -> bool
     fine | coarse
 }
 
-// Whether an order or quote may have this price and these shares.
+/// Whether an order or quote may have this price, in points, and these shares.
 pub fn entry_fits(price: u32, shares: u32) -> bool
     ensures { result ≡ fits price shares }
 {

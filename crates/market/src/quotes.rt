@@ -1,4 +1,4 @@
-// The quotes of a side of a source, one after another.
+//! The quotes of a side of a source, one after another.
 ghost use Rattle.std.specs.Iterator.{YieldsFirst, item_count};
 ghost use Rattle.market.specs.Quotes.{quotes_left};
 
@@ -7,7 +7,7 @@ use crate::side::Side;
 use crate::source::QuoteSource;
 use std::ops::Range;
 
-// Questions the source for each quote as it comes.
+/// Asks the source for each quote as it comes.
 #[derive(Drop)]
 pub struct Quotes<'a, S> {
     pub(crate) source: &'a S,

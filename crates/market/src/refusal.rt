@@ -1,72 +1,76 @@
-// Why a call is refused. Each refusal has a number of its own, which callers get.
+//! Why a call is refused. Each refusal has a number of its own, which callers get.
 ghost use Rattle.std.specs.Prelude.{◌≡◌, Some};
 ghost use Rattle.market.specs.Refusals.{refusal_number, refusal_words};
 
 use std::error::Error;
 use std::fmt;
 
+/// The first question of a call that is answered "no" (docs/RULES.md, "The questions of a call"). Each case says its number, what
+/// asks it, and when it refuses. What is refused leaves everything as it stood.
 #[derive(Clone, Copy, Debug, PartialEq, Eq, Hash)]
 pub enum Refusal {
-    // The tables have not the sizes that the engine works on.
+    /// 1, every call of the engine, and what asks for outstanding tickets: the tables have not the sizes that the engine works on.
     TableSizes = 1,
-    // The engine is in another stage than the call needs.
+    /// 2, every call of the engine: the engine is in another stage than the call needs.
     WrongStage = 2,
-    // The time is past the end of the day, or before the last accepted one.
+    /// 3, begin, close, match, finish and abort: the time, in milliseconds since midnight, is past the end of the day, or before the
+    /// last accepted one.
     TimeRange = 3,
-    // The quotes do not fit.
+    /// 4, begin, close and image pricing: a side has more quotes than a source may list, or one has a price or shares that no quote may
+    /// have.
     Quotes = 4,
-    // Trading in the security is halted.
+    /// 5, begin: trading in the security is halted.
     TradingHalted = 5,
-    // There is not both a bid and an offer, or a bid is above an offer.
+    /// 6, begin: there is not both a bid and an offer, or a bid is above an offer.
     NoMarket = 6,
-    // The order is not well formed.
+    /// 7, begin and enter: the order is not well formed.
     OrderForm = 7,
-    // The start order is a short sale under restriction.
+    /// 8, begin: the start order is a short sale under restriction.
     ShortSale = 8,
-    // The start order has not the minimum size.
+    /// 9, begin: the start order has not the minimum size at its price.
     StartSize = 9,
-    // The start order does not reach the best quote of the other side.
+    /// 10, begin: the start order does not reach the best quote of the other side.
     StartReach = 10,
-    // The cycle may not start at this time.
+    /// 11, begin: the cycle may not start at this time of day, so soon after the first two-sided quote, or so soon after the last cycle.
     StartTime = 11,
-    // Routing is not available.
+    /// 12, begin: routing is not available.
     NoRouting = 12,
-    // The acceptance length is out of its range.
+    /// 13, begin: the acceptance length, in milliseconds, is out of its range.
     AcceptanceLength = 13,
-    // The number is on the book already.
+    /// 14, enter: the number is on the book already.
     NumberTaken = 14,
-    // The side has no free row.
+    /// 15, enter: the side has no free row.
     SideFull = 15,
-    // The number is not on the book.
+    /// 16, cancel: the number is not on the book.
     UnknownOrder = 16,
-    // The order has no rest.
+    /// 17, cancel: the order has no rest.
     NoRest = 17,
-    // The acceptance is not over yet.
+    /// 18, close: the acceptance is not over yet.
     CloseEarly = 18,
-    // The last eligible sale is too high.
+    /// 19, close and image pricing: the last eligible sale is above the highest price.
     LastSale = 19,
-    // There is no such ticket.
+    /// 20, report: there is no such ticket.
     UnknownTicket = 20,
-    // The ticket is reported already.
+    /// 21, report: the ticket is reported already.
     TicketReported = 21,
-    // More is filled than the ticket has shares.
+    /// 22, report: more is filled than the ticket has shares.
     TicketFills = 22,
-    // Tickets are unreported, and the deadline is not reached.
+    /// 23, match: tickets are unreported, and the deadline is not reached.
     TicketsOut = 23,
-    // The output has not 16 bytes.
+    /// 24, image pricing: the output has not the length of the prices that are written there, 16 bytes.
     OutputLength = 24,
-    // The image has not the layout of a book.
+    /// 25, image pricing: the bytes have not the layout of a book image.
     ImageLayout = 25,
-    // An order of the image has a price or shares that no order may have.
+    /// 26, image pricing: an order of the image has a price or shares that no order may have.
     ImageOrder = 26,
-    // There is no such venue or side.
+    /// 27, the venue table: there is no such venue or side.
     VenueOrSide = 27,
-    // The price or the shares of a quote are none that a quote may have.
+    /// 28, the venue table: the price or the shares of a quote are none that a quote may have.
     QuoteValue = 28,
 }
 
 impl Refusal {
-    // What it says, in words.
+    /// What it says, in words, as it is displayed.
     pub fn words(self) -> &'static str
         ensures { result.now ≡ refusal_words self }
     {
@@ -124,6 +128,7 @@ impl Error for Refusal {}
 impl From<Refusal> for u32 {
     ghost from_gives = { λ refusal number. number ≡ refusal_number refusal };
 
+    /// The number of a refusal, from 1.
     fn from(refusal: Refusal) -> u32 {
         refusal as u32
     }

@@ -9,7 +9,7 @@ use Rattle.orders.specs.declared.row.OrderRow.{OrderRow}
 use Rattle.orders.specs.Orders.{class_number, class_numbered}
 use Rattle.orders.specs.Rows.{is_whole, entered_row}
 use Rattle.orders.specs.Tables.{available, if_whole, handed}
-use Rattle.orders.specs.Laws.{KeptWhole, OnlyMoved}
+use Rattle.orders.specs.Laws.{KeptWhole, OnlyMoved, Gains}
 
 pub class_numbered_lem : (x : Class) → class_numbered (class_number x) ≡ Some x
 class_numbered_lem Displayed = refl
@@ -82,3 +82,6 @@ module _ (g : ℕ → OrderRow → OrderRow) (count : OrderRow → ℕ)
         sum_by-cons count w ws,
         sum_by-cons count (if_whole (g k) w) (handed g (k - available w) ws),
       )
+
+  pub gains : (k : ℕ) (ws : List OrderRow) → Gains g count k ws
+  gains k ws = record { rests = rests_fall k ws; counts = counts_rise k ws }

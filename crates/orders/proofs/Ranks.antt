@@ -3,6 +3,7 @@ use Rattle.std.proofs.Common.{◌≡◌, ℕ, ◌≤◌, true, false, cond, not,
 use Rattle.std.proofs.lemmas.Bool.{and_parts, and_from, cases_Bool, false≢true, eqb-true, leb-true, le-leb}
 use Rattle.std.proofs.lemmas.Bool.Decides.{nat_tests}
 use Rattle.market.specs.declared.side.Side.TheVariants.{Buy, Sell}
+use Rattle.market.specs.Limits.{most_shares}
 use Rattle.market.specs.Prices.{permitted, fits}
 use Rattle.orders.specs.Orders.{side_numbered, class_numbered}
 use Rattle.orders.specs.Laws.{OrdersFormed, OrdersRank}
@@ -48,7 +49,7 @@ orders_formed o = (
       let number = and_parts (not (eqb o.number 0)) _ h in
       let entry = and_parts (fits o.price o.shares) _ number.1 in
       let price = and_parts (permitted o.price) _ entry.0 in
-      let shares = and_parts (leb 1 o.shares) (leb o.shares 1000000) price.1 in
+      let shares = and_parts (leb 1 o.shares) (leb o.shares most_shares) price.1 in
       let kinds = and_parts (is_some (side_numbered o.side)) (is_some (class_numbered o.class)) entry.1 in
       record {
         number = positive o.number number.0;
@@ -56,10 +57,11 @@ orders_formed o = (
         class = class_of o.class kinds.1;
         price = price.0;
         least = leb-true 1 o.shares shares.0;
-        most = leb-true o.shares 1000000 shares.1;
+        most = leb-true o.shares most_shares shares.1;
       },
   λ f. and_from (not (eqb o.number 0)) _ (numbered o.number f.number) (and_from (fits o.price o.shares) _
-      (and_from (permitted o.price) _ f.price (and_from (leb 1 o.shares) (leb o.shares 1000000) (le-leb 1 o.shares f.least) (le-leb o.shares 1000000 f.most)))
+      (and_from (permitted o.price) _ f.price
+      (and_from (leb 1 o.shares) (leb o.shares most_shares) (le-leb 1 o.shares f.least) (le-leb o.shares most_shares f.most)))
       (and_from (is_some (side_numbered o.side)) (is_some (class_numbered o.class)) (sided o.side f.side) (classed o.class f.class))),
 )
   where

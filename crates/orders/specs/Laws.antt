@@ -1,5 +1,6 @@
 -- Laws of the rows that hold whatever they hold.
 use Rattle.std.specs.Prelude.{◌≡◌, ℕ, ◌+◌, ◌-◌, ◌<◌, ◌≤◌, ◌↔◌, ◌⊎◌, min, Bool, true, List, ◌++◌, Some, sum_by, nat_lt}
+use Rattle.market.specs.Limits.{most_shares}
 use Rattle.market.specs.Prices.{Permitted}
 use Rattle.market.specs.Rankings.{higher, lower}
 use Rattle.orders.specs.declared.order.Class.{Class}
@@ -14,14 +15,14 @@ use Rattle.orders.specs.Tables.{available, handed}
 abbrev pub ClassesNumbered : Type 0
 ClassesNumbered = (x : Class) → class_numbered (class_number x) ≡ Some x
 
--- an order has a number, a side, a class, a permitted price and 1 to 1,000,000 shares
+-- an order has a number, a side, a class, a permitted price, and 1 share to the most that one has
 pub record Formed (o : Order) : Type 0 where
   pub number : 1 ≤ o.number
   pub side : (o.side ≡ 1) ⊎ (o.side ≡ 2)
   pub class : o.class ≤ 2
   pub price : Permitted o.price
   pub least : 1 ≤ o.shares
-  pub most : o.shares ≤ 1000000
+  pub most : o.shares ≤ most_shares
 
 -- it is well formed just then
 abbrev pub OrdersFormed : Type 0
@@ -31,8 +32,11 @@ OrdersFormed = (o : Order) → well_formed o ≡ true ↔ Formed o
 pub record Ranks (a b : OrderRow) : Type 0 where
   pub buys : b.price < a.price → row_ahead higher a b ≡ true
   pub sells : a.price < b.price → row_ahead lower a b ≡ true
-  pub classes : a.price ≡ b.price → a.class < b.class → (row_ahead higher a b ≡ true) × (row_ahead lower a b ≡ true)
-  pub numbers : a.price ≡ b.price → a.class ≡ b.class → (row_ahead higher a b ≡ nat_lt a.number b.number) × (row_ahead lower a b ≡ nat_lt a.number b.number)
+  pub classes : a.price ≡ b.price → a.class < b.class
+      → (row_ahead higher a b ≡ true) × (row_ahead lower a b ≡ true)
+  pub numbers : a.price ≡ b.price → a.class ≡ b.class
+      → let lower_number : Bool = nat_lt a.number b.number in
+      (row_ahead higher a b ≡ lower_number) × (row_ahead lower a b ≡ lower_number)
 
 abbrev pub OrdersRank : Type 0
 OrdersRank = (a b : OrderRow) → Ranks a b
@@ -68,15 +72,15 @@ InOrder =
     (g : ℕ → OrderRow → OrderRow) (k : ℕ) (xs ys : List OrderRow)
     → handed g k (xs ++ ys) ≡ handed g k xs ++ handed g (k - sum_by available xs) ys
 
--- all that is handed out leaves the rests, and is here, or out, afterwards
+-- all of k that is handed out by a change g leaves the rests, and stands in a count of the rows afterwards
+pub record Gains (g : ℕ → OrderRow → OrderRow) (count : OrderRow → ℕ)
+    (k : ℕ) (ws : List OrderRow) : Type 0 where
+  pub rests : sum_by (λ w. w.rest) (handed g k ws) + min k (sum_by available ws) ≡ sum_by (λ w. w.rest) ws
+  pub counts : sum_by count (handed g k ws) ≡ sum_by count ws + min k (sum_by available ws)
+
+-- what is handed out here is here afterwards, and what is handed out to other venues is out
 abbrev pub HereGains : Type 0
-HereGains =
-    (k : ℕ) (ws : List OrderRow)
-    → (sum_by (λ w. w.rest) (handed with_here k ws) + min k (sum_by available ws) ≡ sum_by (λ w. w.rest) ws)
-    × (sum_by (λ w. w.here) (handed with_here k ws) ≡ sum_by (λ w. w.here) ws + min k (sum_by available ws))
+HereGains = (k : ℕ) (ws : List OrderRow) → Gains with_here (λ w. w.here) k ws
 
 abbrev pub OutGains : Type 0
-OutGains =
-    (k : ℕ) (ws : List OrderRow)
-    → (sum_by (λ w. w.rest) (handed with_out k ws) + min k (sum_by available ws) ≡ sum_by (λ w. w.rest) ws)
-    × (sum_by (λ w. w.out) (handed with_out k ws) ≡ sum_by (λ w. w.out) ws + min k (sum_by available ws))
+OutGains = (k : ℕ) (ws : List OrderRow) → Gains with_out (λ w. w.out) k ws

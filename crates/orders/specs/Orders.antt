@@ -14,7 +14,10 @@ class_number Reserve = 1
 class_number Hidden = 2
 
 abbrev pub class_numbered : ℕ → Option Class
-class_numbered n = cond (n == 0) (Some Displayed) (cond (n == 1) (Some Reserve) (cond (n == 2) (Some Hidden) None))
+class_numbered n =
+    cond (n == 0) (Some Displayed)
+    (cond (n == 1) (Some Reserve)
+    (cond (n == 2) (Some Hidden) None))
 
 -- a number that no class has
 abbrev pub unknown_class : ℕ → UnknownClass
@@ -23,16 +26,18 @@ unknown_class n = record { 0 = n }
 abbrev pub unknown_class_text : ℕ → List ℕ
 unknown_class_text n = codes "no class of orders has number " ++ decimal n
 
--- a number that is not 0, a side, a class, a permitted price and 1 to 1,000,000 shares
+-- a number that is not 0, a side, a class, a permitted price, and 1 share to the most that one has
 abbrev pub well_formed : Order → Bool
 well_formed o =
-    not (o.number == 0) && (fits o.price o.shares && (is_some (side_numbered o.side) && is_some (class_numbered o.class)))
+    not (o.number == 0)
+    && (fits o.price o.shares
+    && (is_some (side_numbered o.side) && is_some (class_numbered o.class)))
 
 -- both, where both are there
 abbrev pub both_of : {A B : Type 0} → Option A → Option B → Option (A × B)
 both_of (Some a) (Some b) = Some (a, b)
 both_of (Some a) None = None
-both_of None b = None
+both_of None _ = None
 
 -- the side and the class of a well-formed order
 abbrev pub typed : Order → Option (Side × Class)

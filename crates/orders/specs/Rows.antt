@@ -1,28 +1,39 @@
--- The row of an order, and each change of its counts.
+-- The row of an order, its price for ranking and counting, and each change of its counts.
 use Rattle.std.specs.Prelude.{◌≡◌, ℕ, ◌+◌, ◌-◌, ◌≤◌, min, Bool, cond, ◌==◌}
+use Rattle.pricing.specs.declared.level.Level.{Level}
 use Rattle.orders.specs.declared.order.Order.{Order}
 use Rattle.orders.specs.declared.row.OrderRow.{OrderRow}
 use Rattle.orders.specs.declared.record.Destination.{Destination}
 use Rattle.orders.specs.declared.record.Destination.TheVariants.{Here, Out}
 
+-- a row with no order in it
 abbrev pub empty_row : OrderRow
-empty_row = record { number = 0; class = 0; price = 0; shares = 0; rest = 0; here = 0; away = 0; out = 0; cancelled = 0; late = 0 }
+empty_row = record {
+  number = 0;
+  class = 0;
+  price = 0;
+  shares = 0;
+  rest = 0;
+  here = 0;
+  away = 0;
+  out = 0;
+  cancelled = 0;
+  late = 0;
+}
+
+-- what rests of a row, and the price at which it ranks and counts
+abbrev pub level_of : OrderRow → Level
+level_of w = record { price = w.price; shares = w.rest }
 
 -- all shares of an order just accepted are rest
 abbrev pub entered_row : Order → OrderRow
-entered_row o =
-    record {
-      number = o.number;
-      class = o.class;
-      price = o.price;
-      shares = o.shares;
-      rest = o.shares;
-      here = 0;
-      away = 0;
-      out = 0;
-      cancelled = 0;
-      late = 0;
-    }
+entered_row o = record empty_row {
+  number = o.number;
+  class = o.class;
+  price = o.price;
+  shares = o.shares;
+  rest = o.shares;
+}
 
 -- the counts add up to the shares as entered
 abbrev pub is_whole : OrderRow → Bool
@@ -30,51 +41,15 @@ is_whole w = w.shares == w.rest + w.here + w.away + w.out + w.cancelled + w.late
 
 -- the rest is cancelled
 abbrev pub with_cancelled : OrderRow → OrderRow
-with_cancelled w =
-    record {
-      number = w.number;
-      class = w.class;
-      price = w.price;
-      shares = w.shares;
-      rest = 0;
-      here = w.here;
-      away = w.away;
-      out = w.out;
-      cancelled = w.cancelled + w.rest;
-      late = w.late;
-    }
+with_cancelled w = record w { rest = 0; cancelled = w.cancelled + w.rest }
 
 -- n shares of the rest, or all of it, are filled here
 abbrev pub with_here : ℕ → OrderRow → OrderRow
-with_here n w =
-    record {
-      number = w.number;
-      class = w.class;
-      price = w.price;
-      shares = w.shares;
-      rest = w.rest - n;
-      here = w.here + min n w.rest;
-      away = w.away;
-      out = w.out;
-      cancelled = w.cancelled;
-      late = w.late;
-    }
+with_here n w = record w { rest = w.rest - n; here = w.here + min n w.rest }
 
 -- n shares of the rest, or all of it, go out
 abbrev pub with_out : ℕ → OrderRow → OrderRow
-with_out n w =
-    record {
-      number = w.number;
-      class = w.class;
-      price = w.price;
-      shares = w.shares;
-      rest = w.rest - n;
-      here = w.here;
-      away = w.away;
-      out = w.out + min n w.rest;
-      cancelled = w.cancelled;
-      late = w.late;
-    }
+with_out n w = record w { rest = w.rest - n; out = w.out + min n w.rest }
 
 -- n shares of the rest, or all of it, go where they are sent
 abbrev pub sent : Destination → ℕ → OrderRow → OrderRow
@@ -91,17 +66,12 @@ gained shares filled w = min filled (back shares w)
 -- what came back unfilled is late, or rests again
 abbrev pub with_settled : ℕ → ℕ → Bool → OrderRow → OrderRow
 with_settled shares filled late w =
-    record {
-      number = w.number;
-      class = w.class;
-      price = w.price;
-      shares = w.shares;
-      rest = w.rest + cond late 0 (back shares w - gained shares filled w);
-      here = w.here;
+    let unfilled : ℕ = back shares w - gained shares filled w in
+    record w {
+      rest = w.rest + cond late 0 unfilled;
       away = w.away + gained shares filled w;
       out = w.out - back shares w;
-      cancelled = w.cancelled;
-      late = w.late + cond late (back shares w - gained shares filled w) 0;
+      late = w.late + cond late unfilled 0;
     }
 
 -- what may have become of a row: it is of the same order, what is filled, cancelled or late stays so, and of what does not, no

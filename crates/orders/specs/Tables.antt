@@ -3,7 +3,7 @@ use Rattle.std.specs.Prelude.{ℕ, ◌-◌, cond, not, List, [], ◌∷◌, map,
 use Rattle.std.specs.List.{prefix_len}
 use Rattle.pricing.specs.declared.level.Level.{Level}
 use Rattle.orders.specs.declared.row.OrderRow.{OrderRow}
-use Rattle.orders.specs.Rows.{empty_row, is_whole}
+use Rattle.orders.specs.Rows.{empty_row, level_of, is_whole}
 
 -- how many rows stand before the first with a number, and so its place, if any
 abbrev pub before : ℕ → List OrderRow → ℕ
@@ -12,10 +12,11 @@ before n ws = prefix_len (λ w. not (w.number == n)) ws
 abbrev pub place_of : ℕ → List OrderRow → Option ℕ
 place_of n ws = cond (nat_lt (before n ws) (length ws)) (Some (before n ws)) None
 
--- what rests at which price
-abbrev pub level_of : OrderRow → Level
-level_of w = record { price = w.price; shares = w.rest }
+-- the row at a place, counted from 0; an empty one past the end
+abbrev pub nth_row : List OrderRow → ℕ → OrderRow
+nth_row ws place = slice_index_or ws place empty_row
 
+-- what rests at which price
 abbrev pub rest_levels : List OrderRow → List Level
 rest_levels ws = map level_of ws
 
@@ -28,7 +29,7 @@ if_whole f w = cond (is_whole w) (f w) w
 
 -- a change of the row at a place; none past the end
 abbrev pub changed_at : (OrderRow → OrderRow) → ℕ → List OrderRow → List OrderRow
-changed_at f place ws = slice_set ws place (if_whole f (slice_index_or ws place empty_row))
+changed_at f place ws = slice_set ws place (if_whole f (nth_row ws place))
 
 -- k shares handed out in the order of the rows: each gets what it has, or what is left
 abbrev pub handed : (ℕ → OrderRow → OrderRow) → ℕ → List OrderRow → List OrderRow

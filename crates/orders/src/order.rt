@@ -1,33 +1,43 @@
-// An order as a member enters it, in plain numbers, and what those numbers say.
+//! An order as a member enters it, in plain numbers, and what those numbers say. docs/RULES.md, "Orders and rows".
 ghost use Rattle.std.specs.Prelude.{◌≡◌, is_some};
 
-use market::price::entry_fits;
-use market::side::Side;
+use market::{Side, entry_fits};
 use std::error::Error;
 use std::fmt;
 
-// A member can enter any numbers; an order that is not well formed is refused.
+/// An order as a member enters it. A member can enter any numbers; an order that is not well formed is refused (refusal 7).
 #[repr(C)]
 #[derive(Clone, Copy, Debug, PartialEq, Eq, Hash)]
 pub struct Order {
+    /// Its sequence number, which names it from then on: any but 0, once on the book.
     pub number: u32,
+    /// The number of its side (`market::Side`): 1 to buy, 2 to sell.
     pub side: u32,
+    /// The number of its class (`Class`): 0, 1 or 2.
     pub class: u32,
+    /// Its limit in points, 20,000 to the dollar: a permitted price.
     pub price: u32,
+    /// How many shares: at least 1, at most `market::MOST_SHARES`.
     pub shares: u32,
 }
 
-// How an order is shown: displayed, the undisplayed part of a reserve order, or not at all.
+/// How an order is shown. Of one price the lower class ranks first.
 #[derive(Clone, Copy, Debug, PartialEq, Eq, PartialOrd, Ord, Hash)]
 pub enum Class {
+    /// Displayed: class 0.
     Displayed = 0,
+    /// The undisplayed part of a reserve order: class 1.
     Reserve = 1,
+    /// Not displayed at all: class 2.
     Hidden = 2,
 }
 
-// A number that no class has.
+/// What `Class::try_from` answers to a number that no class has. An order of such a class is not well formed (refusal 7).
 #[derive(Clone, Copy, Debug, PartialEq, Eq, Hash)]
-pub struct UnknownClass(pub u32);
+pub struct UnknownClass(
+    /// The number.
+    pub u32,
+);
 
 impl fmt::Display for UnknownClass {
     ghost use Rattle.std.specs.Prelude.{Some};
@@ -43,6 +53,7 @@ impl fmt::Display for UnknownClass {
 
 impl Error for UnknownClass {}
 
+// The class of a number.
 impl TryFrom<u32> for Class {
     type Error = UnknownClass;
 
@@ -61,6 +72,7 @@ impl TryFrom<u32> for Class {
     }
 }
 
+// The number of a class.
 impl From<Class> for u32 {
     ghost use Rattle.orders.specs.Orders.{class_number};
 
@@ -74,7 +86,8 @@ impl From<Class> for u32 {
 impl Order {
     ghost use Rattle.orders.specs.Orders.{well_formed, typed};
 
-    // The side and the class of an order; none where it is not well formed.
+    /// The side and the class of an order; none where it is not well formed: its number is not 0, its side and its class have
+    /// their numbers, its price is permitted, and it has 1 share to the most that one has. docs/RULES.md, "Orders and rows".
     pub fn well_formed(self) -> Option<(Side, Class)>
         ensures is { result ≡ typed self }
         ensures when { is_some result ≡ well_formed self }

@@ -1,4 +1,5 @@
-// A row whose counts add up to the shares as entered, and each change of its counts. There is no other.
+//! A row whose counts add up to the shares as entered, and each change of its counts. There is no other. docs/RULES.md, "Orders
+//! and rows".
 ghost use Rattle.std.specs.Prelude.{◌≡◌, true, min};
 ghost use Rattle.orders.specs.Rows.{is_whole, with_cancelled, with_settled, sent};
 
@@ -7,7 +8,7 @@ use std::error::Error;
 use std::fmt;
 use std::marker::Model;
 
-// It keeps the row that it was made of, so that its type can say what may have become of that row since.
+/// A row that is whole. It keeps the row that it was made of, so that its type can say what may have become of that row since.
 #[derive(Debug, Drop)]
 pub struct OrderRecord {
     row: OrderRow,
@@ -23,12 +24,18 @@ impl Model for OrderRecord {
 
     ghost view = { λ a. a.row };
 
-    ghost invariant = { λ a. (a.row.shares ≡ a.row.rest + a.row.here + a.row.away + a.row.out + a.row.cancelled + a.row.late) × Moved a.made_of a.row };
+    ghost invariant = { λ a.
+        (a.row.shares ≡ a.row.rest + a.row.here + a.row.away + a.row.out + a.row.cancelled + a.row.late)
+        × Moved a.made_of a.row };
 }
 
-// A row whose counts do not add up.
+/// What `OrderRecord::try_from` answers to a row whose counts do not add up to its shares. Work on a side leaves such a row as it
+/// is.
 #[derive(Clone, Copy, Debug, PartialEq, Eq, Hash)]
-pub struct NotWhole(pub OrderRow);
+pub struct NotWhole(
+    /// The row.
+    pub OrderRow,
+);
 
 impl fmt::Display for NotWhole {
     ghost use Rattle.std.specs.Prelude.{Some};
@@ -44,14 +51,17 @@ impl fmt::Display for NotWhole {
 
 impl Error for NotWhole {}
 
-// Where shares of an order go: they are filled here, or sent out to another venue. A choice of two, and no closure that adds to
-// a count: the definitions speak of it (`sent`).
+/// Where shares of an order go: they are filled here, or sent out to another venue. A choice of two, and no closure that adds to
+/// a count: the definitions speak of it (`sent`).
 #[derive(Clone, Copy, Debug, PartialEq, Eq, Hash)]
 pub enum Destination {
+    /// Filled here: from rest to here.
     Here,
+    /// Sent out to other venues: from rest to out.
     Out,
 }
 
+// The record of a whole row.
 impl TryFrom<OrderRow> for OrderRecord {
     type Error = NotWhole;
 
@@ -70,6 +80,7 @@ impl TryFrom<OrderRow> for OrderRecord {
     }
 }
 
+// The row of a record, as it is now.
 impl From<OrderRecord> for OrderRow {
     ghost use Rattle.std.specs.Prelude.{◌≡◌, true};
     ghost use Rattle.orders.specs.Rows.{is_whole};
@@ -84,7 +95,7 @@ impl From<OrderRecord> for OrderRow {
 // That the row stays whole is the model's invariant, and is said again by each change: what callers hold of a record in their
 // clauses is its row, which any row can be.
 impl OrderRecord {
-    // Cancels the rest, and answers how many shares that is.
+    /// Cancels the rest, and answers how many shares that is.
     pub fn cancel_rest(&mut self) -> u32
         ensures row { self.new ≡ with_cancelled self.old }
         ensures count { result ≡ self.old.rest }
@@ -96,7 +107,7 @@ impl OrderRecord {
         count
     }
 
-    // Sends up to `most` shares of the rest where they go, and answers how many.
+    /// Sends up to `most` shares of the rest where they go, and answers how many.
     pub fn send(&mut self, most: u64, to: Destination) -> u64
         ensures row { self.new ≡ sent to most self.old }
         ensures count { result ≡ min most self.old.rest }
@@ -111,8 +122,9 @@ impl OrderRecord {
         u64::from(count)
     }
 
-    // A ticket of `shares` that were out comes back with `filled` of them: what is not filled is late, or rests again. The three
-    // are one report's; the functions of a report hand them on.
+    /// A ticket of `shares` that were out comes back with `filled` of them: those go to away, and what is not filled is late, or
+    /// rests again. The three are one report's; the functions of a report hand them on. No more comes back than is out, and no
+    /// more is filled than comes back.
     pub fn settle(&mut self, shares: u32, filled: u32, late: bool)
         ensures row { self.new ≡ with_settled shares filled late self.old }
         ensures whole { is_whole self.new ≡ true }

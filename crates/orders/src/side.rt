@@ -1,8 +1,10 @@
-// Work on the rows of one side. A row whose counts do not add up is left as it is.
-ghost use Rattle.std.specs.Prelude.{◌≡◌, ◌*◌, ◌≤◌, ◌<◌, ◌↔◌, true, IfSome, IsSome, IfNone, is_some, min, map, length, sum_by, slice_index_or, slice_set};
+//! Work on the rows of one side. A row whose counts do not add up is left as it is, and has nothing that can be moved.
+//! docs/RULES.md, "Orders and rows".
+ghost use Rattle.std.specs.Prelude.{◌≡◌, ◌-◌, ◌*◌, ◌^◌, ◌≤◌, ◌<◌, ◌↔◌, true, IfSome, IsSome, IfNone, is_some, min, map, length, sum_by, slice_set};
 ghost use Rattle.std.specs.Fn.{FnOnceReturnsAtMut};
-ghost use Rattle.orders.specs.Rows.{empty_row, is_whole, with_cancelled, with_settled, sent};
-ghost use Rattle.orders.specs.Tables.{before, available, if_whole, changed_at, place_of, handed};
+ghost use Rattle.market.specs.Limits.{most_orders};
+ghost use Rattle.orders.specs.Rows.{is_whole, with_cancelled, with_settled, sent};
+ghost use Rattle.orders.specs.Tables.{nth_row, before, available, if_whole, changed_at, place_of, handed};
 
 use crate::record::{Destination, OrderRecord};
 use crate::row::OrderRow;
@@ -27,10 +29,11 @@ fn change_at<T, F: FnOnce(&mut OrderRecord) -> T>(
     change: F,
 ) -> Option<T>
     requires { F.IsAlwaysCallable change }
-    ensures changed { IfSome result (λ answer. FnOnceReturnsAtMut F.FnOnce change (slice_index_or rows.old place empty_row) answer (slice_index_or rows.new place empty_row)) }
-    ensures whole { IsSome result ↔ ((place < length rows.old) × (is_whole (slice_index_or rows.old place empty_row) ≡ true)) }
+    ensures changed { IfSome result (λ answer.
+        FnOnceReturnsAtMut F.FnOnce change (nth_row rows.old place) answer (nth_row rows.new place)) }
+    ensures whole { IsSome result ↔ ((place < length rows.old) × (is_whole (nth_row rows.old place) ≡ true)) }
     ensures kept { IfNone result (rows.new ≡ rows.old) }
-    ensures others { rows.new ≡ slice_set rows.old place (slice_index_or rows.new place empty_row) }
+    ensures others { rows.new ≡ slice_set rows.old place (nth_row rows.new place) }
 {
     // By the length: no contract says what `get_mut` leaves in a slice.
     if place < rows.len() {
@@ -61,7 +64,7 @@ fn rows_before(rows: &[OrderRow], number: u32) -> usize
     rows.len()
 }
 
-// Whether a row has a number.
+/// Whether a row has a number: whether the order is on this side.
 pub fn has_number(rows: &[OrderRow], number: u32) -> bool
     ensures { result ≡ is_some (place_of number rows.now) }
 {
@@ -69,7 +72,7 @@ pub fn has_number(rows: &[OrderRow], number: u32) -> bool
         .fold(false, |found, row| found | (row.number == number))
 }
 
-// The place of the first row with a number, if any.
+/// The place of the first row with a number, counted from 0, if any.
 pub fn find(rows: &[OrderRow], number: u32) -> Option<usize>
     ensures { result ≡ place_of number rows.now }
 {
@@ -77,19 +80,21 @@ pub fn find(rows: &[OrderRow], number: u32) -> Option<usize>
     (place < rows.len()).then_some(place)
 }
 
-// Cancels the rest of the row at a place, and answers how many shares that is; past the end nothing happens.
+/// Cancels the rest of the row at a place, and answers how many shares that is; past the end nothing happens.
 pub fn cancel_at(rows: &mut [OrderRow], place: usize) -> u32
     ensures rows { rows.new ≡ changed_at with_cancelled place rows.old }
-    ensures count { result ≡ available (slice_index_or rows.old place empty_row) }
+    ensures count { result ≡ available (nth_row rows.old place) }
 {
     change_at(rows, place, OrderRecord::cancel_rest).unwrap_or(0)
 }
 
-// Cancels the rest of each row, and answers how many shares that is, at most as many as the type holds.
+/// Cancels the rest of each row, and answers how many shares that is: all of them where the rows are no more than a side has
+/// orders, else at most as many as the type holds.
 pub fn cancel_all(rows: &mut [OrderRow]) -> u64
     ensures rows { rows.new ≡ map (if_whole with_cancelled) rows.old }
-    ensures total { result ≡ min (sum_by available rows.old) 18446744073709551615 }
-    ensures bound { length rows.old ≤ 512 → (result ≡ sum_by available rows.old) × (result ≤ 4294967295 * 512) }
+    ensures total { result ≡ min (sum_by available rows.old) (2 ^ 64 - 1) }
+    ensures bound { length rows.old ≤ most_orders →
+        (result ≡ sum_by available rows.old) × (result ≤ (2 ^ 32 - 1) * most_orders) }
 {
     let mut total: u64 = 0;
     for row in rows {
@@ -99,7 +104,8 @@ pub fn cancel_all(rows: &mut [OrderRow]) -> u64
     total
 }
 
-// Sends shares where they go, handed out in the order of the rows, and answers how many were.
+/// Sends `shares` where they go, handed out in the order of the rows: each row sends its rest, or what is left of them. Answers
+/// how many were sent. docs/RULES.md, "Shares in rank order".
 pub fn hand_out(rows: &mut [OrderRow], shares: u64, to: Destination) -> u64
     ensures rows { rows.new ≡ handed (sent to) shares rows.old }
     ensures total { result ≡ min shares (sum_by available rows.old) }
@@ -113,7 +119,8 @@ pub fn hand_out(rows: &mut [OrderRow], shares: u64, to: Destination) -> u64
     shares - left
 }
 
-// Settles a ticket on the row at a place; past the end nothing happens.
+/// Settles a ticket of `shares`, of which `filled` were filled, on the row at a place; past the end nothing happens. What was not
+/// filled is late, or rests again.
 pub fn settle_at(rows: &mut [OrderRow], place: usize, shares: u32, filled: u32, late: bool)
     ensures { rows.new ≡ changed_at (with_settled shares filled late) place rows.old }
 {

@@ -1,4 +1,4 @@
 pub mod Digests
 pub mod Replies
-pub mod Turns
+pub mod Instructions
 pub mod Sessions

@@ -18,8 +18,8 @@ abbrev pub answer_numbers : Answer → Numbers → List ℕ
 answer_numbers Done n = []
 answer_numbers (Cancelled shares) n = n.shares ∷ []
 answer_numbers (Executed shares) n = n.shares ∷ []
-answer_numbers (Priced price count tickets) n = n.closing.cause ∷ n.closing.price ∷ n.closing.count ∷ n.closing.tickets ∷ []
-answer_numbers (Unpriced cause) n = n.closing.cause ∷ n.closing.price ∷ n.closing.count ∷ n.closing.tickets ∷ []
+answer_numbers (Priced price count tickets) n = n.close.cause ∷ n.close.price ∷ n.close.count ∷ n.close.tickets ∷ []
+answer_numbers (Unpriced cause) n = n.close.cause ∷ n.close.price ∷ n.close.count ∷ n.close.tickets ∷ []
 
 abbrev pub reply_text : Reply → List ℕ
 reply_text reply.Done = []

@@ -1,15 +1,15 @@
-// A digest of an engine and its tables: FNV-1a over the numbers that they hold, each taken whole.
+//! A digest of an engine and its tables: FNV-1a over the numbers that they hold, each taken whole.
 ghost use Rattle.std.specs.Prelude.{◌≡◌, ℕ, List, [], ◌∷◌};
 ghost use Rattle.std.specs.List.{flat_map};
-ghost use Rattle.play_calls.specs.Digests.{mixed, row_numbers, quote_numbers, ticket_numbers, stage_numbers, engine_numbers, desk_numbers};
+ghost use Rattle.play_calls.specs.Digests.{mixed, row_numbers, quote_numbers, ticket_numbers, stage_numbers, engine_numbers, memory_numbers, desk_numbers};
 
-use desk::desk::Desk;
-use engine::stage::Stage;
-use engine::state::Engine;
-use market::quote::Quote;
-use orders::row::OrderRow;
-use routing::ticket::Ticket;
+use desk::{Desk, Memory};
+use engine::{Engine, Stage};
+use market::Quote;
+use orders::OrderRow;
+use routing::Ticket;
 
+// Where a digest begins, and by what each step multiplies it: the two constants of FNV-1a in 64 bits.
 const BASIS: u64 = 0xcbf2_9ce4_8422_2325;
 
 const PRIME: u64 = 0x0000_0100_0000_01b3;
@@ -117,14 +117,23 @@ impl Mixed for Engine {
     }
 }
 
+// Every row of the tables, in use or not, in this order of the tables.
+impl Mixed for Memory {
+    ghost numbers = { memory_numbers };
+
+    fn mixed(&self, digest: u64) -> u64 {
+        let digest = mixed_all(&self.buys, digest);
+        let digest = mixed_all(&self.sells, digest);
+        let digest = mixed_all(&self.bids, digest);
+        let digest = mixed_all(&self.offers, digest);
+        mixed_all(&self.tickets, digest)
+    }
+}
+
 /// One number of 64 bits that mixes the stage, the numbers of rows in use and every row of a desk.
 pub fn digest_of(desk: &Desk) -> u64
     ensures { result ≡ mixed BASIS (desk_numbers desk.now) }
 {
     let digest = desk.engine.mixed(BASIS);
-    let digest = mixed_all(&desk.buys, digest);
-    let digest = mixed_all(&desk.sells, digest);
-    let digest = mixed_all(&desk.bids, digest);
-    let digest = mixed_all(&desk.offers, digest);
-    mixed_all(&desk.tickets, digest)
+    desk.memory.mixed(digest)
 }

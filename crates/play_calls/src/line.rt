@@ -1,7 +1,6 @@
-// A line of the input: a letter and numbers, with one blank between.
-use engine::call::{Call, Facts};
-use engine::stage::Issue;
-use orders::order::Order;
+//! A line of the input: a letter and numbers, with one blank between.
+use engine::{Call, Facts, Issue};
+use orders::Order;
 use std::num::ParseIntError;
 use std::str::{FromStr, Split};
 use thiserror::Error;
@@ -17,28 +16,34 @@ impl From<ParseIntError> for NoLine {
     }
 }
 
-/// What a line asks for. A venue and a side may be any numbers: the venue table refuses those that are none.
-#[derive(Clone, Copy, Debug, PartialEq, Eq)]
-pub enum Turn {
+/// What a line asks for: a change of the venues, a new engine, a call, or the question for a ticket. A venue and a side may be any numbers: the venue table refuses those that are none.
+#[derive(Clone, Debug, Drop, PartialEq, Eq)]
+pub enum Instruction {
+    /// A venue quotes shares at a price, in points, on a side.
     Quote {
         venue: u32,
         side: u32,
         price: u32,
         shares: u32,
     },
+    /// A venue takes its quote off a side.
     Clear {
         venue: u32,
         side: u32,
     },
+    /// Trading is halted, or goes on.
     Halted {
         halted: bool,
     },
+    /// A new engine for an issue.
     Made {
         issue: Issue,
     },
+    /// A call of the engine.
     Call {
         call: Call,
     },
+    /// Which ticket is the first that is not reported.
     Outstanding,
 }
 
@@ -142,42 +147,42 @@ impl<'a> Words<'a> {
         })
     }
 
-    // What the letter and the numbers after it ask for.
-    fn turn(&mut self) -> Result<Turn, NoLine> {
+    // The instruction that a letter and the numbers after it are.
+    fn instruction(&mut self) -> Result<Instruction, NoLine> {
         Ok(match self.word()? {
-            "q" => Turn::Quote {
+            "q" => Instruction::Quote {
                 venue: self.number()?,
                 side: self.number()?,
                 price: self.number()?,
                 shares: self.number()?,
             },
-            "c" => Turn::Clear {
+            "c" => Instruction::Clear {
                 venue: self.number()?,
                 side: self.number()?,
             },
-            "h" => Turn::Halted {
+            "h" => Instruction::Halted {
                 halted: self.mark()?,
             },
-            "n" => Turn::Made {
+            "n" => Instruction::Made {
                 issue: self.issue()?,
             },
-            "o" => Turn::Outstanding,
-            letter => Turn::Call {
+            "o" => Instruction::Outstanding,
+            letter => Instruction::Call {
                 call: self.call(letter)?,
             },
         })
     }
 }
 
-impl FromStr for Turn {
+impl FromStr for Instruction {
     type Err = NoLine;
 
-    fn from_str(text: &str) -> Result<Turn, NoLine> {
+    fn from_str(text: &str) -> Result<Instruction, NoLine> {
         let mut words = Words::new(text);
-        let turn = words.turn()?;
+        let instruction = words.instruction()?;
         if words.word().is_ok() {
             return Err(NoLine);
         }
-        Ok(turn)
+        Ok(instruction)
     }
 }

@@ -1,16 +1,18 @@
-// What a line that is not refused is answered.
+//! What a line that is not refused is answered.
 ghost use Rattle.std.specs.Prelude.{Some};
 ghost use Rattle.play_calls.specs.Replies.{reply_text};
 
-use engine::answer::{Answer, Closing, Numbers};
-use engine::outstanding::OutstandingNumbers;
+use engine::{Answer, CloseAnswer, Numbers, OutstandingNumbers};
 use std::fmt;
 
 /// What a line that is not refused is answered.
 #[derive(Clone, Copy, Debug, PartialEq, Eq)]
 pub enum Reply {
+    /// A change of the venues, or a new engine: no number.
     Done,
+    /// A call that is granted: the numbers of its answer.
     Called(Answer),
+    /// The question for a ticket: its number, or 0 where all are reported.
     Outstanding(Option<u32>),
 }
 
@@ -26,12 +28,12 @@ impl fmt::Display for Reply {
                 write!(f, " {shares}")
             }
             Reply::Called(answer @ (Answer::Priced { .. } | Answer::Unpriced { .. })) => {
-                let Closing {
+                let CloseAnswer {
                     cause,
                     price,
                     count,
                     tickets,
-                } = Numbers::from(Ok(answer)).closing;
+                } = Numbers::from(Ok(answer)).close;
                 write!(f, " {cause} {price} {count} {tickets}")
             }
             Reply::Outstanding(ticket) => {

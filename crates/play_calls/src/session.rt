@@ -1,17 +1,18 @@
-// A desk that is played from its start.
+//! A desk that is played from its start.
 ghost use Rattle.std.specs.Prelude.{◌≡◌};
 ghost use Rattle.play_calls.specs.Sessions.{InRun};
-ghost use Rattle.play_calls.specs.Turns.{Played, GoesOn};
+ghost use Rattle.play_calls.specs.Instructions.{InstructionPlayed, GoesOn};
 
-use crate::line::Turn;
+use crate::line::Instruction;
 use crate::play;
 use crate::reply::Reply;
-use desk::desk::Desk;
-use market::refusal::Refusal;
+use desk::Desk;
+use market::Refusal;
 
-/// Whatever lines were played, the desk's run is a history: each call among them was lawful.
+/// A desk and what is known of it: whatever lines were played, its run is a history, so each call among them was lawful.
 #[derive(Drop)]
 pub struct Session {
+    /// The desk that the lines are played on.
     pub desk: Desk,
     ghost in_run: { InRun desk },
 }
@@ -22,11 +23,11 @@ impl Session {
         Session { desk: Desk::new() }
     }
 
-    /// Does what a line says.
-    pub fn play(&mut self, turn: Turn) -> Result<Reply, Refusal>
-        ensures played { Played self.old.desk turn self.new.desk result }
-        ensures goes_on { GoesOn self.old.desk turn self.new.desk result }
+    /// Does what a line says (`play`). `Err` is the refusal of its call, its question or its change of the venues.
+    pub fn play(&mut self, instruction: Instruction) -> Result<Reply, Refusal>
+        ensures played { InstructionPlayed self.old.desk instruction self.new.desk result }
+        ensures goes_on { GoesOn self.old.desk instruction self.new.desk result }
     {
-        play(&mut self.desk, turn)
+        play(&mut self.desk, instruction)
     }
 }

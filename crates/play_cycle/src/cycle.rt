@@ -1,17 +1,14 @@
-// The phases of the cycle, each with the calls that are made in it.
+//! The phases of the cycle, each with the calls that are made in it.
 use crate::session::{
     BEGIN, CANCELLED, CLOSE, EARLY_CLOSE, EARLY_MATCH, FACTS, FINISH, LAST_SALE, LATE_REPORT,
     MATCH, Quoted, REPORTS, UNKNOWN, entries, quotes, starts,
 };
-use call_words::words::{CallWords, Clock, Outcome};
-use desk::depth::Depth;
-use desk::desk::Desk;
-use engine::answer::Answer;
-use engine::call::Call;
-use market::best::best_price;
-use market::side::Side;
-use report::numbers::{Dollars, Grouped};
-use sheets::sheets::{print_depth, print_outstanding};
+use call_words::{CallWords, Outcome, TimeOfDay};
+use desk::{Depth, Desk, Memory};
+use engine::{Answer, Call};
+use market::{Refusal, Side, best_price};
+use report::{Dollars, Grouped};
+use sheets::{print_depth, print_outstanding};
 use std::io;
 
 // A quote on a side has a word of its own, bid or offer.
@@ -49,11 +46,19 @@ pub fn quote(rt: &HostRuntime, desk: &mut Desk) -> io::Result<()> {
     print_best(rt, desk, Side::Sell, "offer")
 }
 
+// Makes a call, prints it with its answer, and hands the answer on.
+fn make(rt: &HostRuntime, desk: &mut Desk, call: Call) -> io::Result<Result<Answer, Refusal>> {
+    let words = CallWords(&call);
+    print!(rt; "  {words}: ")?;
+    let answer = desk.call(call);
+    let outcome = Outcome(answer);
+    println!(rt; "{outcome}")?;
+    Ok(answer)
+}
+
 // Makes a call, and prints it with its answer.
 fn play(rt: &HostRuntime, desk: &mut Desk, call: Call) -> io::Result<()> {
-    let outcome = Outcome(desk.call(call));
-    let call = CallWords(call);
-    println!(rt; "  {call}: {outcome}")
+    make(rt, desk, call).map(|_| ())
 }
 
 /// The start order opens the acceptance; with too few shares it does not.
@@ -81,7 +86,7 @@ pub fn enter(rt: &HostRuntime, desk: &mut Desk) -> io::Result<()> {
     Ok(())
 }
 
-/// A member cancels; the desk is too early to close, and to finish.
+/// A member cancels, after a number that no order has; the desk is too early to close, and to finish.
 pub fn cancel(rt: &HostRuntime, desk: &mut Desk) -> io::Result<()> {
     play(rt, desk, Call::Cancel { number: UNKNOWN })?;
     play(rt, desk, Call::Cancel { number: CANCELLED })?;
@@ -97,26 +102,23 @@ pub fn cancel(rt: &HostRuntime, desk: &mut Desk) -> io::Result<()> {
 pub fn close(rt: &HostRuntime, desk: &mut Desk) -> io::Result<()> {
     println!(rt; "")?;
     println!(rt; "The close")?;
-    // The rows as the close finds them.
-    let before = *desk;
+    // The orders as the close finds them.
+    let Memory { buys, sells, .. } = desk.memory;
     let call = Call::Close {
         time: CLOSE,
         last_sale: LAST_SALE,
     };
-    let answer = desk.call(call);
-    let outcome = Outcome(answer);
-    let words = CallWords(call);
-    println!(rt; "  {words}: {outcome}")?;
+    let answer = make(rt, desk, call)?;
     if let Ok(Answer::Priced { price, .. }) = answer {
-        print_depth(rt, &Depth::at_close(&before, desk), price)?;
+        print_depth(rt, &Depth::at_close(&buys, &sells, &desk.memory), price)?;
     }
     Ok(())
 }
 
-/// Tickets are reported, and the sides are matched at the deadline.
+/// Tickets are reported, the first of them with too many shares at first, and the sides are matched at the deadline.
 pub fn satisfy(rt: &HostRuntime, desk: &mut Desk) -> io::Result<()> {
     println!(rt; "")?;
-    let deadline = Clock(MATCH);
+    let deadline = TimeOfDay(MATCH);
     println!(rt; "Until the deadline, {deadline}")?;
     print_outstanding(rt, desk)?;
     for report in REPORTS {

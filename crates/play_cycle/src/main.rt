@@ -1,12 +1,13 @@
+//! Plays one whole cycle on a table of venues, and prints the record of it.
+
 #![tactic(auto)]
 
-// Plays one whole cycle on a table of venues, and prints the record of it.
 mod cycle;
 mod session;
 
 use cycle::{begin, cancel, close, enter, finish, quote, satisfy};
-use desk::desk::Desk;
-use sheets::sheets::{print_book, print_checks, print_orders, print_tickets, print_trades};
+use desk::Desk;
+use sheets::{print_book, print_checks, print_orders, print_tickets, print_trades};
 use std::io;
 
 fn main(rt: HostRuntime) -> io::Result<()> {

@@ -1,39 +1,50 @@
-// The session that is played: what the venues quote, and what members enter.
-use engine::call::{Call, Facts};
-use engine::limits::TICKET_TIME;
-use market::side::Side;
-use orders::order::{Class, Order};
+//! The session that is played: what the venues quote, and what members enter.
+use engine::{Call, Facts, TICKET_TIME};
+use market::Side;
+use orders::{Class, Order};
 
-/// Times of the day, in milliseconds since midnight.
+// How long orders are taken, in milliseconds.
+const ACCEPTANCE: u32 = 500;
+
+/// When the cycle begins, in milliseconds since midnight, as every time here: 10:15.
 pub const BEGIN: u32 = 36_900_000;
 
-pub const EARLY_CLOSE: u32 = 36_900_400;
+/// A close before the acceptance is over.
+pub const EARLY_CLOSE: u32 = CLOSE - 100;
 
-pub const CLOSE: u32 = 36_900_500;
+/// The close, as soon as the acceptance is over.
+pub const CLOSE: u32 = BEGIN + ACCEPTANCE;
 
-pub const EARLY_MATCH: u32 = 36_900_620;
+/// A match before the deadline, while tickets are out.
+pub const EARLY_MATCH: u32 = CLOSE + 120;
 
 /// The deadline of tickets: the match may come without them.
 pub const MATCH: u32 = CLOSE + TICKET_TIME;
 
-pub const FINISH: u32 = 36_900_950;
+/// The end of the cycle.
+pub const FINISH: u32 = MATCH + 250;
 
-/// The last eligible sale before the close.
+/// The last eligible sale before the close, in points.
 pub const LAST_SALE: u32 = 1_040_300;
 
+/// What the venue knows of the market as it begins the cycle.
 pub const FACTS: Facts = Facts {
     short_sale: false,
     first_quote: Some(30_604_120),
     routing: true,
-    acceptance: 500,
+    acceptance: ACCEPTANCE,
 };
 
 /// A quote of a venue.
-#[derive(Clone, Copy, Debug, PartialEq, Eq)]
+#[derive(Clone, Copy)]
 pub struct Quoted {
+    /// The number of the venue.
     pub venue: u32,
+    /// Buy for a bid, sell for an offer.
     pub side: Side,
+    /// The price, in points.
     pub price: u32,
+    /// How many shares.
     pub shares: u32,
 }
 
@@ -99,9 +110,10 @@ pub fn entries() -> [Order; 13] {
     ]
 }
 
-/// The order that its member cancels, and a number that no order has.
+/// The number of the order that its member cancels.
 pub const CANCELLED: u32 = 107;
 
+/// A number that no order has.
 pub const UNKNOWN: u32 = 999;
 
 /// What the venues report of tickets. The first is more than the ticket has.

@@ -7,7 +7,7 @@ use Rattle.std.specs.Iterator.Adapters.{take_while_steps}
 use Rattle.std.specs.declared.iter.TakeWhile.{TakeWhile}
 use denote.Param.Members.{Mut}
 use denote.Ref.{Bor}
-use Rattle.image.specs.Held.{book_of}
+use Rattle.image.specs.Readers.{reader_book}
 use Rattle.price_image.specs.declared.prices.Prices.{Prices}
 use Rattle.price_image.specs.Prices.{StepsUp, PricesBetween}
 
@@ -36,12 +36,12 @@ module _ {F : Type 0} (g : Mut F (Bor ℕ × Unit {0}) Bool) (f : F) (high : ℕ
       (subst (λ z. StepsUp s.iter (Some z) t.iter) e p, subst (λ z. z < high) e (ltb-true y high (sym q.1)), q.0, w.1)
 
   -- nothing came: the book has no next price, or it is not below the higher one
-  stopped : (s t : TakeWhile Prices F) (o : Option ℕ) → s.p ≡ f → StepsUp s.iter o t.iter → Tests s None t o → PricesBetween (book_of s.iter.book) s.iter.above high []
+  stopped : (s t : TakeWhile Prices F) (o : Option ℕ) → s.p ≡ f → StepsUp s.iter o t.iter → Tests s None t o → PricesBetween (reader_book s.iter.book) s.iter.above high []
   stopped s t None a p c = inr p
   stopped s t (Some y) a p (true, c, w) = absurd (true≢false (ap is_some (sym w.0)))
   stopped s t (Some y) a p (false, c, w) = inl (subst (λ z. high ≤ z) p.0 (ltb-false y high (sym (told s t y false a c).1)))
 
-  pub taken : (xs : List ℕ) (s t u : TakeWhile Prices F) → s.p ≡ f → s.done ≡ false → Yields (take_while_steps StepsUp g) s xs t → take_while_steps StepsUp g t None u → PricesBetween (book_of s.iter.book) s.iter.above high xs
+  pub taken : (xs : List ℕ) (s t u : TakeWhile Prices F) → s.p ≡ f → s.done ≡ false → Yields (take_while_steps StepsUp g) s xs t → take_while_steps StepsUp g t None u → PricesBetween (reader_book s.iter.book) s.iter.above high xs
   taken [] s t u a d y n =
       let q = open_turn s u None d (subst (λ w. take_while_steps StepsUp g w None u) (sym y) n) in
       stopped s u q.0 a q.1 q.2
@@ -49,12 +49,12 @@ module _ {F : Type 0} (g : Mut F (Bor ℕ × Unit {0}) Bool) (f : F) (high : ℕ
       let q = open_turn s j (Some x) d one in
       let c = came s j x q.0 a q.1 q.2 in
       let more = taken xs j t u c.2 c.3 y n in
-      (c.0.0, c.0.1, c.1, subst (λ z. PricesBetween (book_of s.iter.book) z high xs) c.0.3 (subst (λ b. PricesBetween (book_of b) j.iter.above high xs) c.0.2 more))
+      (c.0.0, c.0.1, c.1, subst (λ z. PricesBetween (reader_book s.iter.book) z high xs) c.0.3 (subst (λ b. PricesBetween (reader_book b) j.iter.above high xs) c.0.2 more))
 
   -- what is collected of them
   pub listed : {Z E : Type 0} (r : Result (Vec ℕ Z) E) (s : TakeWhile Prices F) → s.p ≡ f → s.done ≡ false → IsCollectResult (take_while_steps StepsUp g) s r
-      → IfOk r (λ prices. PricesBetween (book_of s.iter.book) s.iter.above high prices.items)
+      → IfOk r (λ prices. PricesBetween (reader_book s.iter.book) s.iter.above high prices.items)
   listed (Ok prices) s a d c =
       let n = c.1.2 tt in
-      subst (λ xs. PricesBetween (book_of s.iter.book) s.iter.above high xs) (sym c.2.0) (taken c.0 s c.1.0 n.0 a d c.1.1 n.1)
+      subst (λ xs. PricesBetween (reader_book s.iter.book) s.iter.above high xs) (sym c.2.0) (taken c.0 s c.1.0 n.0 a d c.1.1 n.1)
   listed (Err e) s a d c = tt

@@ -1,14 +1,14 @@
+//! Prices a book image and prints a record of it: price_image [IMAGE [LAST-SALE]].
+
 #![tactic(auto)]
 
-// Prices a book image and prints a record of it: price_image [IMAGE [LAST-SALE]].
 mod prices;
 mod record;
 mod request;
 
 use anyhow::anyhow;
-use image::export::price_image;
-use image::image::BookImage;
-use market::refusal::Refusal;
+use image::{BookImage, price_image};
+use market::Refusal;
 use record::{print_book, print_outcome, print_request};
 use request::Request;
 use std::fs;

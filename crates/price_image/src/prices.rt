@@ -1,13 +1,13 @@
-// The prices at which shares stand in a book.
+//! The prices at which shares stand in a book.
 ghost use Rattle.std.specs.Prelude.{◌≡◌, ◌-◌};
 ghost use Rattle.std.specs.Iterator.{at_most};
 ghost use Rattle.market.specs.Limits.{highest_price};
 
-use image::image::BookImage;
-use market::limits::HIGHEST_PRICE;
-use pricing::view::BookView;
+use image::BookImage;
+use market::HIGHEST_PRICE;
+use pricing::BookView;
 
-// The prices above one, the lowest first, up to the highest price there is, which is not among them.
+/// The prices above one, the lowest first, up to the highest price there is, which is not among them.
 #[derive(Clone, Copy, Debug, PartialEq, Eq)]
 pub struct Prices<'a> {
     book: BookImage<'a>,
@@ -15,6 +15,7 @@ pub struct Prices<'a> {
 }
 
 impl<'a> Prices<'a> {
+    /// The prices of a book above one, in points.
     pub fn above(book: BookImage<'a>, price: u32) -> Prices<'a>
         ensures book { result.book ≡ book.entry }
         ensures price { result.above ≡ price }

@@ -1,20 +1,18 @@
-// The record of one pricing.
+//! The record of one pricing.
 ghost use Rattle.std.specs.Prelude.{IfOk};
-ghost use Rattle.image.specs.Held.{book_of};
+ghost use Rattle.image.specs.Readers.{reader_book};
 ghost use Rattle.price_image.specs.Prices.{PricesBetween};
 
 use crate::prices::Prices;
 use crate::request::Request;
-use image::image::BookImage;
-use market::side::Side;
-use market::source::QuoteSource;
-use pricing::cause::Cause;
-use pricing::close::reference_price;
-use pricing::view::BookView;
-use report::numbers::{Column, Dollars, Grouped};
+use image::BookImage;
+use market::{QuoteSource, Side};
+use pricing::{BookView, Cause, reference_price};
+use report::{Column, Dollars, Grouped};
 use std::alloc::{AllocError, Global};
 use std::io;
 
+/// Prints what was asked for: the image with its length in bytes, and the last sale in points.
 pub fn print_request(rt: &HostRuntime, request: &Request, bytes: usize) -> io::Result<()> {
     let path = request.path.as_str();
     println!(rt; "SNAP pricing of {path}, {bytes} bytes")?;
@@ -53,6 +51,7 @@ fn print_quotes(rt: &HostRuntime, book: &BookImage<'_>, side: Side, name: &str) 
     Ok(())
 }
 
+/// Prints the orders and the quotes of a book in the order in which it lists them: shares, and price in points.
 pub fn print_book(rt: &HostRuntime, book: &BookImage<'_>) -> io::Result<()> {
     println!(rt; "")?;
     println!(rt; "The book           shares        points   dollars")?;
@@ -76,7 +75,7 @@ const SHOWN: usize = 4;
 
 // The prices of the book below one, the lowest first.
 fn prices_below(alloc: Global, book: &BookImage<'_>, middle: u32) -> Result<Vec<u32>, AllocError>
-    ensures { IfOk result (λ prices. PricesBetween (book_of book.now) 0 middle prices.items) }
+    ensures { IfOk result (λ prices. PricesBetween (reader_book book.now) 0 middle prices.items) }
 {
     Prices::above(*book, 0)
         .take_while(|price| *price < middle)
@@ -135,6 +134,8 @@ fn print_cause(rt: &HostRuntime, outcome: Result<(u32, u64), Cause>) -> io::Resu
     }
 }
 
+/// Prints demand and supply around the price, the reference, and the outcome: the price in points with its count in shares, or the
+/// cause. A last sale is in points.
 pub fn print_outcome(
     rt: &HostRuntime,
     book: &BookImage<'_>,

@@ -1,4 +1,4 @@
-// What is asked for on the command line.
+//! What is asked for on the command line.
 ghost use Rattle.std.specs.Str.Parse.{ParsesUnsigned};
 
 use anyhow::anyhow;
@@ -9,9 +9,12 @@ const SAMPLE: &str = "sample.book";
 
 const SAMPLE_SALE: u32 = 200_290;
 
+/// What is to be priced.
 #[derive(Drop)]
 pub struct Request {
+    /// The file with the image.
     pub path: String,
+    /// The last eligible sale, in points; none where there was none.
     pub last_sale: Option<u32>,
 }
 
@@ -25,8 +28,8 @@ fn parse_sale(text: &str) -> anyhow::Result<u32>
 }
 
 impl Request {
-    // The words after the program's name: an image and a last sale, each of which may be left out. A last sale of 0
-    // is none.
+    /// The words after the program's name: an image and a last sale, each of which may be left out. A last sale of 0
+    /// is none.
     pub fn from_arguments(rt: &HostRuntime) -> anyhow::Result<Request> {
         let mut words = env::args(rt)?.skip(1);
         let Some(path) = words.next() else {

@@ -5,7 +5,7 @@ use Rattle.market.specs.declared.side.Side.TheVariants.{Buy, Sell}
 use Rattle.pricing.specs.declared.cause.Cause.TheVariants.{NothingToTrade, LockedOrCrossed, NoReference, Halted}
 use Rattle.pricing.specs.Books.{Book, levels, at_or_above, at_or_below, above, below, count_at}
 use Rattle.pricing.specs.Candidates.{Clears, Candidate}
-use Rattle.pricing.specs.Closing.{Outcome, Nothing, Undecided, Priced, Snapped, Closing, Orderly, touching, best_on, reference, reference_of}
+use Rattle.pricing.specs.Outcomes.{Outcome, Nothing, Undecided, Priced, Snapped, IsOutcome, Orderly, touching, best_on, reference, reference_of}
 use Rattle.pricing.proofs.Choosing.{chosen_like}
 
 pub record Alike (a b : Book) : Type 0 where
@@ -99,14 +99,11 @@ module _ {a b : Book} (like : Alike a b) where
   snapped_like : (ref : Option ℕ) (x : Outcome) → Snapped a ref x → Snapped b ref x
   snapped_like ref (Ok x) s = (something_like s.0, priced_like ref x.0 x.1 s.1)
   snapped_like ref (Err NothingToTrade) s = nothing_like s
-  snapped_like ref (Err LockedOrCrossed) s = s
   snapped_like ref (Err NoReference) s = (something_like s.0, undecided_like ref s.1)
-  snapped_like ref (Err Halted) s = s
+  snapped_like ref x s = s
 
-  pub closing_like : (halted : Bool) (last : ℕ) (x : Outcome) → Closing halted a last x → Closing halted b last x
-  closing_like halted last (Ok x) c = (orderly_like like halted c.0, subst (λ r. Snapped b r (Ok x)) (reference_like like last) (snapped_like (reference a last) (Ok x) c.1))
-  closing_like halted last (Err NothingToTrade) c = (orderly_like like halted c.0, nothing_like c.1)
-  closing_like halted last (Err LockedOrCrossed) c = (c.0, sym (touching_like like) ∙ c.1)
-  closing_like halted last (Err NoReference) c =
-      (orderly_like like halted c.0, subst (λ r. Snapped b r (Err NoReference)) (reference_like like last) (snapped_like (reference a last) (Err NoReference) c.1))
+  pub closing_like : (halted : Bool) (last : ℕ) (x : Outcome) → IsOutcome halted a last x → IsOutcome halted b last x
   closing_like halted last (Err Halted) c = c
+  closing_like halted last (Err LockedOrCrossed) c = (c.0, sym (touching_like like) ∙ c.1)
+  closing_like halted last x c =
+      (orderly_like like halted c.0, subst (λ r. Snapped b r x) (reference_like like last) (snapped_like (reference a last) x c.1))

@@ -3,7 +3,7 @@ use Rattle.std.proofs.Common.{◌≡◌, ℕ, ◌-◌, ◌<◌, ◌≤◌, Bool,
 use Rattle.std.proofs.lemmas.Bool.{cases_lt, cases_eq, ltb-true, ltb-false}
 use Rattle.market.specs.Prices.{Permitted}
 use Rattle.pricing.specs.Books.{Book}
-use Rattle.pricing.specs.Candidates.{Clears, Candidate, apart, Only, Nearest, Midway, Chosen, SnapPrice}
+use Rattle.pricing.specs.Candidates.{Clears, Candidate, distance, Only, Nearest, Midway, Chosen, SnapPrice}
 use Rattle.pricing.specs.Ranges.{nearer_of, Within, Around}
 use Rattle.pricing.proofs.Sides.{buyers_up, sellers_down}
 
@@ -19,7 +19,7 @@ module _ (C : ℕ → Type 0) where
       elim (cases_eq m.low p) [
         | inl e ↦
             let ne : m.high ≡ p → ⊥ = λ e'. omega (arith, m.order) in
-            omega (arith, a.nearest m.high m.high_of ne, ap (apart r) e, m.level)
+            omega (arith, a.nearest m.high m.high_of ne, ap (distance r) e, m.level)
         | inr ne ↦ omega (arith, a.nearest m.low m.low_of ne, m.nearest p a.candidate)
       ]
 

@@ -5,8 +5,9 @@ use Rattle.std.proofs.lemmas.List.Sums.{sum_by-cons, sum_by-le-sum_by}
 use Rattle.std.proofs.lemmas.Bool.Decides.{nat_tests}
 use Rattle.market.proofs.Grid.{grid}
 use Rattle.market.specs.Prices.{Permitted}
+use Rattle.market.specs.Limits.{highest_price}
 use Rattle.pricing.specs.declared.level.Level.{Level}
-use Rattle.pricing.specs.Books.{at_or_above, at_or_below, above, below, Standing}
+use Rattle.pricing.specs.Books.{at_or_above, at_or_below, above, below, AtPermitted}
 
 -- a sum is the same where each part is, of elements that P holds of
 pub sum_by_same : {X : Type 0} (P : X → Type 0) (f g : X → ℕ) → ((x : X) → P x → f x ≡ g x) → (xs : List X) → AllByRecursion P xs → sum_by f xs ≡ sum_by g xs
@@ -80,19 +81,19 @@ below_pred q h ls = let e : q ≡ (q - 1) + 1 = omega arith in ap (λ x. below x
 
 -- between neighbours a and b nothing stands
 module _ (a b : ℕ) (lt : a < b) (gap : (p : ℕ) → Permitted p → (p ≤ a) ⊎ (b ≤ p)) where
-  pub gap_below : (ls : List Level) → Standing ls → below b ls ≡ at_or_below a ls
+  pub gap_below : (ls : List Level) → AtPermitted ls → below b ls ≡ at_or_below a ls
   unfolding below at_or_below
   gap_below ls all = sum_by_same (λ l. Permitted l.price) _ _ (λ l h. gap_below_part a b l.price l.shares lt (gap l.price h)) ls all
 
-  pub gap_above : (ls : List Level) → Standing ls → above a ls ≡ at_or_above b ls
+  pub gap_above : (ls : List Level) → AtPermitted ls → above a ls ≡ at_or_above b ls
   unfolding above at_or_above
   gap_above ls all = sum_by_same (λ l. Permitted l.price) _ _ (λ l h. gap_above_part a b l.price l.shares lt (gap l.price h)) ls all
 
 -- beyond the lowest and the highest price nothing stands
-pub none_below : (ls : List Level) → Standing ls → below 2 ls ≡ 0
+pub none_below : (ls : List Level) → AtPermitted ls → below 2 ls ≡ 0
 unfolding below
 none_below ls all = sum_by_none (λ l. Permitted l.price) _ (λ l h. none_below_part 2 l.price l.shares (grid l.price h).least) ls all
 
-pub none_above : (ls : List Level) → Standing ls → above 4000000000 ls ≡ 0
+pub none_above : (ls : List Level) → AtPermitted ls → above highest_price ls ≡ 0
 unfolding above
-none_above ls all = sum_by_none (λ l. Permitted l.price) _ (λ l h. none_above_part 4000000000 l.price l.shares (grid l.price h).most) ls all
+none_above ls all = sum_by_none (λ l. Permitted l.price) _ (λ l h. none_above_part highest_price l.price l.shares (grid l.price h).most) ls all

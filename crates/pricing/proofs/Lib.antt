@@ -4,8 +4,8 @@ pub mod Steps
 pub mod Rows
 pub mod Choosing
 pub mod Next
-pub mod Executable
+pub mod Shares
 pub mod Outcomes
-pub mod Standing
+pub mod PermittedLevels
 pub mod Alike
 pub mod Quoted

@@ -5,8 +5,10 @@ use Rattle.std.proofs.lemmas.Bool.Decides.{nat_tests}
 use Rattle.std.proofs.lemmas.Bool.{cases_lt, cases_eq}
 use Rattle.market.specs.Prices.{Permitted}
 use Rattle.market.proofs.Grid.{grid}
+use Rattle.market.specs.Limits.{highest_price}
+use Rattle.pricing.specs.Limits.{permitted_prices}
 use Rattle.pricing.specs.declared.level.Level.{Level}
-use Rattle.pricing.specs.Books.{Book, levels, at_or_above, at_or_below, demand_at, supply_at, offered_below, Standing, Sound}
+use Rattle.pricing.specs.Books.{Book, levels, at_or_above, at_or_below, demand_at, supply_at, offered_below, AtPermitted, Sound}
 use Rattle.pricing.specs.Ranges.{next_above, next_price, Lowest, Highest}
 use Rattle.pricing.proofs.Levels.{at_or_above_falls, at_or_below_rises}
 use Rattle.pricing.proofs.Sides.{demand_falls, supply_rises, wanted_is, offered_is}
@@ -15,7 +17,7 @@ use Rattle.pricing.proofs.Rows.{lowest_sellers}
 
 -- where one entry stands above q, if it does
 abbrev stands : ℕ → ℕ → ℕ → ℕ
-stands q p s = cond (ltb q p && ltb 0 s) p 4000000000
+stands q p s = cond (ltb q p && ltb 0 s) p highest_price
 
 still_above_part : (q x p s : ℕ) → q < x → x ≤ stands q p s → cond (leb x p) s 0 ≡ cond (leb (q + 1) p) s 0
 still_above_part q x p s h k = grind (arith, nat_tests)
@@ -23,27 +25,27 @@ still_above_part q x p s h k = grind (arith, nat_tests)
 still_below_part : (q x p s : ℕ) → q ≤ x → x < stands q p s → cond (leb p x) s 0 ≡ cond (leb p q) s 0
 still_below_part q x p s h k = grind (arith, nat_tests)
 
-falls_part : (q m p s : ℕ) → m < 4000000000 → stands q p s ≡ m → cond (leb (m + 1) p) s 0 < cond (leb m p) s 0
+falls_part : (q m p s : ℕ) → m < highest_price → stands q p s ≡ m → cond (leb (m + 1) p) s 0 < cond (leb m p) s 0
 falls_part q m p s h e = grind (arith, nat_tests)
 
-rises_part : (q m p s : ℕ) → m < 4000000000 → stands q p s ≡ m → cond (leb p (m - 1)) s 0 < cond (leb p m) s 0
+rises_part : (q m p s : ℕ) → m < highest_price → stands q p s ≡ m → cond (leb p (m - 1)) s 0 < cond (leb p m) s 0
 rises_part q m p s h e = grind (arith, nat_tests)
 
-over_part : (q p s : ℕ) → q < 4000000000 → q < stands q p s
+over_part : (q p s : ℕ) → q < highest_price → q < stands q p s
 over_part q p s h = grind (arith, nat_tests)
 
-floor_part : (q p s : ℕ) → q ≤ 4000000000 → q ≤ stands q p s
+floor_part : (q p s : ℕ) → q ≤ highest_price → q ≤ stands q p s
 floor_part q p s h = grind (arith, nat_tests)
 
-next_floor : (q : ℕ) → q ≤ 4000000000 → (ls : List Level) → q ≤ next_above q ls
+next_floor : (q : ℕ) → q ≤ highest_price → (ls : List Level) → q ≤ next_above q ls
 next_floor q h [] = h
 next_floor q h (l ∷ ls) = omega (arith, floor_part q l.price l.shares h, next_floor q h ls)
 
-pub next_over : (q : ℕ) → q < 4000000000 → (ls : List Level) → q < next_above q ls
+pub next_over : (q : ℕ) → q < highest_price → (ls : List Level) → q < next_above q ls
 next_over q h [] = h
 next_over q h (l ∷ ls) = omega (arith, over_part q l.price l.shares h, next_over q h ls)
 
-pub next_most : (q : ℕ) (ls : List Level) → next_above q ls ≤ 4000000000
+pub next_most : (q : ℕ) (ls : List Level) → next_above q ls ≤ highest_price
 next_most q [] = omega arith
 next_most q (l ∷ ls) = omega (arith, next_most q ls)
 
@@ -79,7 +81,7 @@ rises_rest : (m p s : ℕ) → cond (leb p (m - 1)) s 0 ≤ cond (leb p m) s 0
 rises_rest m p s = grind (arith, nat_tests)
 
 -- at the next price shares stand
-pub falls_there : (q m : ℕ) → m < 4000000000 → (ls : List Level) → next_above q ls ≡ m → at_or_above (m + 1) ls < at_or_above m ls
+pub falls_there : (q m : ℕ) → m < highest_price → (ls : List Level) → next_above q ls ≡ m → at_or_above (m + 1) ls < at_or_above m ls
 unfolding at_or_above
 falls_there q m h [] e = absurd (omega arith)
 falls_there q m h (l ∷ ls) e =
@@ -90,7 +92,7 @@ falls_there q m h (l ∷ ls) e =
       | inr other ↦ omega (arith, one, two, falls_part q m l.price l.shares h (omega arith), at_or_above_falls m (m + 1) (omega arith) ls)
     ]
 
-pub rises_there : (q m : ℕ) → m < 4000000000 → (ls : List Level) → next_above q ls ≡ m → at_or_below (m - 1) ls < at_or_below m ls
+pub rises_there : (q m : ℕ) → m < highest_price → (ls : List Level) → next_above q ls ≡ m → at_or_below (m - 1) ls < at_or_below m ls
 unfolding at_or_below
 rises_there q m h [] e = absurd (omega arith)
 rises_there q m h (l ∷ ls) e =
@@ -109,24 +111,24 @@ permitted_least a b x y =
       | inr ge ↦ let e : min a b ≡ b = omega arith in rw e y
     ]
 
-permitted_cond : (t : Bool) (p : ℕ) → Permitted p → Permitted (cond t p 4000000000)
+permitted_cond : (t : Bool) (p : ℕ) → Permitted p → Permitted (cond t p highest_price)
 permitted_cond true p h = h
-permitted_cond false p h = permitted_at 20009900 (omega arith) (omega arith)
+permitted_cond false p h = permitted_at permitted_prices (omega arith) (omega arith)
 
-pub next_permitted : (q : ℕ) (ls : List Level) → Standing ls → Permitted (next_above q ls)
-next_permitted q [] all = permitted_at 20009900 (omega arith) (omega arith)
+pub next_permitted : (q : ℕ) (ls : List Level) → AtPermitted ls → Permitted (next_above q ls)
+next_permitted q [] all = permitted_at permitted_prices (omega arith) (omega arith)
 next_permitted q (l ∷ ls) all =
     permitted_least (stands q l.price l.shares) (next_above q ls) (permitted_cond (ltb q l.price && ltb 0 l.shares) l.price all.0) (next_permitted q ls all.1)
 
 -- the same of a book
 module _ (b : Book) (q : ℕ) where
-  pub price_over : q < 4000000000 → q < next_price b q
+  pub price_over : q < highest_price → q < next_price b q
   price_over h = omega (arith, next_over q h b.buys, next_over q h b.sells, next_over q h (levels b.bids), next_over q h (levels b.offers))
 
-  pub price_floor : q ≤ 4000000000 → q ≤ next_price b q
+  pub price_floor : q ≤ highest_price → q ≤ next_price b q
   price_floor h = omega (arith, next_floor q h b.buys, next_floor q h b.sells, next_floor q h (levels b.bids), next_floor q h (levels b.offers))
 
-  pub price_most : next_price b q ≤ 4000000000
+  pub price_most : next_price b q ≤ highest_price
   price_most = omega (arith, next_most q b.buys)
 
   pub demand_still : (x : ℕ) → q < x → x ≤ next_price b q → demand_at b x ≡ demand_at b (q + 1)
@@ -135,7 +137,7 @@ module _ (b : Book) (q : ℕ) where
   pub supply_still : (x : ℕ) → q ≤ x → x < next_price b q → supply_at b x ≡ supply_at b q
   supply_still x h k = omega (arith, still_below q x h b.sells (omega arith), still_below q x h (levels b.offers) (omega arith))
 
-  module _ (m : ℕ) (e : next_price b q ≡ m) (short : m < 4000000000) where
+  module _ (m : ℕ) (e : next_price b q ≡ m) (short : m < highest_price) where
     -- shares leave the demand or join the supply at the next price
     pub something_there : (demand_at b (m + 1) < demand_at b m) ⊎ (supply_at b (m - 1) < supply_at b m)
     something_there =
@@ -190,7 +192,7 @@ module _ (b : Book) (sound : Sound b) (lo : ℕ) (l : Lowest b lo) where
         ]
 
     -- past the next price the sellers' side fails
-    past_fails : (q : ℕ) → next_price b lo < q → q ≤ 4000000000 → offered_below b q ≤ demand_at b q → ⊥
+    past_fails : (q : ℕ) → next_price b lo < q → q ≤ highest_price → offered_below b q ≤ demand_at b q → ⊥
     past_fails q past most h =
         let over : lo < next_price b lo = price_over b lo (omega (arith, price_floor b lo (grid lo l.permitted).most)) in
         let same = demand_still b lo (next_price b lo) over (omega arith) in

@@ -5,7 +5,7 @@ use Rattle.pricing.specs.declared.cause.Cause.TheVariants.{NothingToTrade, Locke
 use Rattle.market.specs.declared.side.Side.TheVariants.{Buy, Sell}
 use Rattle.pricing.specs.Books.{Book, Sound, count_at}
 use Rattle.pricing.specs.Candidates.{Candidate, Only, Chosen, SnapPrice}
-use Rattle.pricing.specs.Closing.{Outcome, Best, Nothing, Undecided, Priced, Snapped, Closing, Orderly, touching, best_on, reference}
+use Rattle.pricing.specs.Outcomes.{Outcome, Best, Nothing, Undecided, Priced, Snapped, IsOutcome, Orderly, touching, best_on, reference}
 use Rattle.pricing.specs.Ranges.{Within, Lowest, Highest}
 use Rattle.pricing.proofs.Sides.{counts_most}
 use Rattle.pricing.proofs.Rows.{lowest_candidate, lo_le_hi, within_candidate, candidate_within, some_candidate}
@@ -96,12 +96,10 @@ Ways halted b last y =
     ((halted ≡ true) × (y ≡ Err Halted))
     ⊎ (((halted ≡ false) × (touching (best_on Buy b) (best_on Sell b) ≡ true) × (y ≡ Err LockedOrCrossed)) ⊎ (Orderly halted b × Snapped b (reference b last) y))
 
-ways : (halted : Bool) (b : Book) (last : ℕ) (y : Outcome) → Closing halted b last y → Ways halted b last y
-ways halted b last (Ok x) c = inr (inr c)
-ways halted b last (Err NothingToTrade) c = inr (inr c)
-ways halted b last (Err LockedOrCrossed) c = inr (inl (c.0, c.1, refl))
-ways halted b last (Err NoReference) c = inr (inr c)
+ways : (halted : Bool) (b : Book) (last : ℕ) (y : Outcome) → IsOutcome halted b last y → Ways halted b last y
 ways halted b last (Err Halted) c = inl (c, refl)
+ways halted b last (Err LockedOrCrossed) c = inr (inl (c.0, c.1, refl))
+ways halted b last x c = inr (inr c)
 
 module _ (halted : Bool) (b : Book) (last : ℕ) where
   same_way : (x y : Outcome) → Ways halted b last x → Ways halted b last y → x ≡ y
@@ -115,16 +113,14 @@ module _ (halted : Bool) (b : Book) (last : ℕ) where
   same_way x y (inr (inr s)) (inr (inl t)) = absurd (both_ways (touching (best_on Buy b) (best_on Sell b)) s.0.apart t.1)
   same_way x y (inr (inr s)) (inr (inr t)) = snapped_once b (reference b last) x y s.1 t.1
 
-  pub closing_once : (x y : Outcome) → Closing halted b last x → Closing halted b last y → x ≡ y
+  pub closing_once : (x y : Outcome) → IsOutcome halted b last x → IsOutcome halted b last y → x ≡ y
   closing_once x y c d = same_way x y (ways halted b last x c) (ways halted b last y d)
 
   -- the laws of the best price
-  pub best : (x : Outcome) → Sound b → Closing halted b last x → Best b x
+  pub best : (x : Outcome) → Sound b → IsOutcome halted b last x → Best b x
   best (Ok x) sound c = priced_most b (reference b last) x.0 x.1 c.1.1
   best (Err NothingToTrade) sound c = nothing_all b sound c.1
-  best (Err LockedOrCrossed) sound c = tt
-  best (Err NoReference) sound c = tt
-  best (Err Halted) sound c = tt
+  best x sound c = tt
 
-  pub zero_nothing : (x : Outcome) → Closing halted b last x → Orderly halted b → ((q : ℕ) → count_at b q ≡ 0) → x ≡ Err NothingToTrade
+  pub zero_nothing : (x : Outcome) → IsOutcome halted b last x → Orderly halted b → ((q : ℕ) → count_at b q ≡ 0) → x ≡ Err NothingToTrade
   zero_nothing x c orderly none = closing_once x (Err NothingToTrade) c (orderly, λ q _. none q)

@@ -2,7 +2,7 @@
 use Rattle.std.proofs.Common.{◌≡◌, ℕ, ◌<◌, ◌≤◌, true, false, List, [], length, get_or, Some, None, Option, ◌⊎◌, ◌↔◌, refl, ap, ◌∙◌, inl, inr, arith}
 use Rattle.std.specs.List.{Any}
 use Rattle.std.proofs.lemmas.List.{get_or_default}
-use Rattle.std.proofs.lemmas.Bool.{false≢true, leb-true, le-leb, eq-eqb, ne_eqb}
+use Rattle.std.proofs.lemmas.Bool.{false≢true, leb-true, le-leb, ltb-true, lt-ltb, eq-eqb, ne_eqb}
 use Rattle.std.proofs.lemmas.Bool.Decides.{nat_tests}
 use Rattle.market.specs.declared.quote.Quote.{Quote}
 use Rattle.market.specs.declared.side.Side.TheVariants.{Buy, Sell}
@@ -10,8 +10,8 @@ use Rattle.market.specs.Best.{best_price}
 use Rattle.market.specs.Markets.{no_quote}
 use Rattle.market.specs.Laws.{is_better}
 use Rattle.market.proofs.Bests.{best_some, best_none, best_at, none_beats, best_price_is}
-use Rattle.pricing.specs.Closing.{touching, midpoint}
-use Rattle.pricing.specs.Laws.{ReferenceIs, TouchingIs}
+use Rattle.pricing.specs.Outcomes.{is_crossed, touching, midpoint}
+use Rattle.pricing.specs.Laws.{ReferenceIs, TouchingParts, CrossedIs, TouchingIs}
 
 no_midpoint : (bids offers : List Quote) → (bids ≡ []) ⊎ (offers ≡ []) → midpoint (best_price Buy bids) (best_price Sell offers) ≡ None
 no_midpoint bids offers (inl e) = rw e refl
@@ -62,3 +62,33 @@ touching_by bids offers (Some bid) (Some offer) e f =
 
 pub touching_is : TouchingIs
 touching_is b = touching_by b.bids b.offers (best_price Buy b.bids) (best_price Sell b.offers) refl refl
+
+crossed_by : (bids offers : List Quote) (bid offer : Option ℕ) → best_price Buy bids ≡ bid → best_price Sell offers ≡ offer → is_crossed bid offer ≡ true ↔ Any (λ x. Any (λ z. z.price < x.price) offers) bids
+crossed_by bids offers None offer e f = (λ h. absurd (false≢true h), λ a. absurd (let none = best_none Buy bids e in let l = a.2 in omega (arith, ap length none)))
+crossed_by bids offers (Some bid) None e f = (λ h. absurd (false≢true h), λ a. absurd (let none = best_none Sell offers f in let l = a.4.2 in omega (arith, ap length none)))
+crossed_by bids offers (Some bid) (Some offer) e f =
+    let best-bid = best_some Buy bids bid e in
+    let best-offer = best_some Sell offers offer f in
+    let at-bid = best_at Buy bids bid best-bid in
+    let at-offer = best_at Sell offers offer best-offer in (
+      λ h. at_place (λ x. Any (λ z. z.price < x.price) offers) bids at-bid.0 at-bid.1
+          (at_place (λ z. z.price < (get_or bids at-bid.0 no_quote).price) offers at-offer.0 at-offer.1 (omega (arith, ltb-true offer bid h, at-bid.2, at-offer.2))),
+      λ a.
+          let z = a.4 in
+          lt-ltb offer bid (omega (
+            arith,
+            not_higher _ bid (none_beats Buy bids bid best-bid a.0 a.2),
+            not_lower _ offer (none_beats Sell offers offer best-offer z.0 z.2),
+            ap (λ x. x.price) (get_or_default bids a.0 no_quote a.1 a.2 ∙ a.3),
+            ap (λ x. x.price) (get_or_default offers z.0 no_quote z.1 z.2 ∙ z.3),
+            z.4,
+          )),
+    )
+
+pub crossed_is : CrossedIs
+crossed_is b = crossed_by b.bids b.offers (best_price Buy b.bids) (best_price Sell b.offers) refl refl
+
+pub touching_parts : TouchingParts
+touching_parts None offer = record { either = refl; one = refl }
+touching_parts (Some bid) None = record { either = refl; one = refl }
+touching_parts (Some bid) (Some offer) = record { either = grind (arith, nat_tests); one = grind (arith, nat_tests) }

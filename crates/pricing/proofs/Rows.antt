@@ -3,6 +3,8 @@ use Rattle.std.proofs.Common.{◌≡◌, ℕ, zero, suc, ◌+◌, ◌<◌, ◌�
 use Rattle.std.proofs.lemmas.Bool.{cases_lt}
 use Rattle.market.specs.Prices.{Permitted}
 use Rattle.market.proofs.Grid.{grid}
+use Rattle.market.specs.Limits.{highest_price}
+use Rattle.pricing.specs.Limits.{permitted_prices}
 use Rattle.pricing.specs.Books.{Book, Sound, demand_at, supply_at, wanted_above, offered_below}
 use Rattle.pricing.specs.Candidates.{Candidate}
 use Rattle.pricing.specs.Ranges.{price_at, Within, Lowest, Highest}
@@ -18,7 +20,7 @@ module _ (b : Book) (sound : Sound b) where
 
   -- the lowest price at which the buyers' side stands is a candidate
   module _ (lo : ℕ) (l : Lowest b lo) where
-    at_index : (i : ℕ) → 1 ≤ i → i ≤ 20009900 → lo ≡ price_at i → offered_below b lo ≤ demand_at b lo
+    at_index : (i : ℕ) → 1 ≤ i → i ≤ permitted_prices → lo ≡ price_at i → offered_below b lo ≤ demand_at b lo
     at_index zero low high e = absurd (omega arith)
     at_index (suc zero) low high e = let two : lo ≡ 2 = e in rw two (omega (arith, none_offered b sound))
     at_index (suc (suc i)) low high e =
@@ -59,10 +61,10 @@ module _ (b : Book) (sound : Sound b) where
       }
 
   -- the first price from the bottom at which the buyers' side stands
-  first : (n i : ℕ) → i + n ≡ 20009900 → ((p : ℕ) → Permitted p → wanted_above b p ≤ supply_at b p → price_at i < p) → (lo : ℕ) × Lowest b lo
+  first : (n i : ℕ) → i + n ≡ permitted_prices → ((p : ℕ) → Permitted p → wanted_above b p ≤ supply_at b p → price_at i < p) → (lo : ℕ) × Lowest b lo
   first zero i e under =
-      let top : Permitted 4000000000 = permitted_at 20009900 (omega arith) (omega arith) in
-      absurd (omega (arith, under 4000000000 top (omega (arith, none_wanted b sound)), price_max i))
+      let top : Permitted highest_price = permitted_at permitted_prices (omega arith) (omega arith) in
+      absurd (omega (arith, under highest_price top (omega (arith, none_wanted b sound)), price_max i))
   first (suc n) i e under =
       elim (cases_lt (supply_at b (price_at (i + 1))) (wanted_above b (price_at (i + 1)))) [
         | inr stands ↦ (
@@ -80,7 +82,7 @@ module _ (b : Book) (sound : Sound b) where
       ]
 
   pub some_lowest : (lo : ℕ) × Lowest b lo
-  some_lowest = first 20009900 0 (omega arith) (λ p ok h. omega (arith, (grid p ok).least))
+  some_lowest = first permitted_prices 0 (omega arith) (λ p ok h. omega (arith, (grid p ok).least))
 
   pub some_candidate : (q : ℕ) × Candidate b q
   some_candidate = (some_lowest.0, lowest_candidate some_lowest.0 some_lowest.1)

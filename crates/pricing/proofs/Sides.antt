@@ -2,6 +2,7 @@
 use Rattle.std.proofs.Common.{◌≡◌, ℕ, ◌+◌, ◌-◌, ◌<◌, ◌≤◌, ◌⊎◌, inl, inr, arith}
 use Rattle.std.proofs.lemmas.Bool.{cases_order, cases_lt}
 use Rattle.market.specs.Prices.{Permitted}
+use Rattle.market.specs.Limits.{lowest_price, highest_price}
 use Rattle.pricing.specs.Books.{Book, levels, demand_at, supply_at, count_at, wanted_above, offered_below, Sound}
 use Rattle.pricing.specs.Candidates.{Clears}
 use Rattle.pricing.proofs.Levels as of
@@ -57,8 +58,8 @@ module _ (b : Book) (sound : Sound b) where
   pub gap_wanted : (x y : ℕ) → x < y → ((p : ℕ) → Permitted p → (p ≤ x) ⊎ (y ≤ p)) → wanted_above b x ≡ demand_at b y
   gap_wanted x y lt gap = omega (arith, of.gap_above x y lt gap b.buys sound.buys, of.gap_above x y lt gap (levels b.bids) sound.bids)
 
-  pub none_offered : offered_below b 2 ≡ 0
+  pub none_offered : offered_below b lowest_price ≡ 0
   none_offered = omega (arith, of.none_below b.sells sound.sells, of.none_below (levels b.offers) sound.offers)
 
-  pub none_wanted : wanted_above b 4000000000 ≡ 0
+  pub none_wanted : wanted_above b highest_price ≡ 0
   none_wanted = omega (arith, of.none_above b.buys sound.buys, of.none_above (levels b.bids) sound.bids)

@@ -4,6 +4,7 @@ use Rattle.std.proofs.lemmas.Bool.Decides.{nat_tests}
 use Rattle.std.proofs.lemmas.Bool.{cases_lt}
 use Rattle.market.specs.Prices.{Permitted}
 use Rattle.market.proofs.Grid.{grid, permitted_since}
+use Rattle.pricing.specs.Limits.{permitted_prices}
 use Rattle.pricing.specs.Ranges.{price_at}
 
 -- two lines, the steeper from a dollar on
@@ -13,7 +14,7 @@ price_max i = grind (arith, nat_tests)
 pub price_rises : (a b : ℕ) → a < b → price_at a < price_at b
 price_rises a b h = omega (arith, price_max a, price_max b)
 
-pub permitted_at : (i : ℕ) → 1 ≤ i → i ≤ 20009900 → Permitted (price_at i)
+pub permitted_at : (i : ℕ) → 1 ≤ i → i ≤ permitted_prices → Permitted (price_at i)
 permitted_at i low high = permitted_since (price_at i) (record {
   even = omega (arith, price_max i);
   least = omega (arith, price_max i);
@@ -33,7 +34,7 @@ no_between i p ok =
       ]
     ]
 
-pub index_of : (p : ℕ) → Permitted p → (i : ℕ) × (1 ≤ i) × (i ≤ 20009900) × (p ≡ price_at i)
+pub index_of : (p : ℕ) → Permitted p → (i : ℕ) × (1 ≤ i) × (i ≤ permitted_prices) × (p ≡ price_at i)
 index_of p ok =
     let g = grid p ok in
     elim (cases_lt p 20000) [

@@ -39,9 +39,9 @@ abbrev pub executable_at : Side → ℕ → List Level → ℕ
 executable_at Buy q ls = at_or_above q ls
 executable_at Sell q ls = at_or_below q ls
 
-abbrev pub executable : Side → ℕ → Level → ℕ
-executable Buy q l = cond (nat_le q l.price) l.shares 0
-executable Sell q l = cond (nat_le l.price q) l.shares 0
+abbrev pub executable_shares : Side → ℕ → Level → ℕ
+executable_shares Buy q l = cond (nat_le q l.price) l.shares 0
+executable_shares Sell q l = cond (nat_le l.price q) l.shares 0
 
 -- demand at q: the buys at q or higher, D(q), and the bids at q or higher, B(q)
 abbrev pub demand_at : Book → ℕ → ℕ
@@ -68,11 +68,11 @@ abbrev pub offered_below : Book → ℕ → ℕ
 offered_below b q = below q b.sells + below q (levels b.offers)
 
 -- everything in the book stands at a permitted price
-abbrev pub Standing : List Level → Type 0
-Standing ls = AllByRecursion (λ l. Permitted l.price) ls
+abbrev pub AtPermitted : List Level → Type 0
+AtPermitted ls = AllByRecursion (λ l. Permitted l.price) ls
 
 pub record Sound (b : Book) : Type 0 where
-  pub buys : Standing b.buys
-  pub sells : Standing b.sells
-  pub bids : Standing (levels b.bids)
-  pub offers : Standing (levels b.offers)
+  pub buys : AtPermitted b.buys
+  pub sells : AtPermitted b.sells
+  pub bids : AtPermitted (levels b.bids)
+  pub offers : AtPermitted (levels b.offers)

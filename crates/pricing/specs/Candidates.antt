@@ -14,8 +14,8 @@ pub record Candidate (b : Book) (q : ℕ) : Type 0 where
   pub clears : Clears b q
 
 -- how far two prices are apart
-abbrev pub apart : ℕ → ℕ → ℕ
-apart a b = (a - b) + (b - a)
+abbrev pub distance : ℕ → ℕ → ℕ
+distance a b = (a - b) + (b - a)
 
 -- p is the only candidate
 pub record Only (C : ℕ → Type 0) (p : ℕ) : Type 0 where
@@ -25,7 +25,7 @@ pub record Only (C : ℕ → Type 0) (p : ℕ) : Type 0 where
 -- p is the candidate nearest to the reference r: every other is farther
 pub record Nearest (C : ℕ → Type 0) (r p : ℕ) : Type 0 where
   pub candidate : C p
-  pub nearest : (q : ℕ) → C q → (q ≢ p) → apart r p < apart r q
+  pub nearest : (q : ℕ) → C q → (q ≢ p) → distance r p < distance r q
 
 -- two candidates are equally near to the reference and none is nearer: the price is the reference itself
 pub record Midway (C : ℕ → Type 0) (r p : ℕ) : Type 0 where
@@ -34,8 +34,8 @@ pub record Midway (C : ℕ → Type 0) (r p : ℕ) : Type 0 where
   pub low_of : C low
   pub high_of : C high
   pub order : low < high
-  pub level : apart r low ≡ apart r high
-  pub nearest : (q : ℕ) → C q → apart r low ≤ apart r q
+  pub level : distance r low ≡ distance r high
+  pub nearest : (q : ℕ) → C q → distance r low ≤ distance r q
   pub itself : p ≡ r
 
 -- the price among the candidates C, under a reference if there is one

@@ -1,18 +1,19 @@
 -- Steps of the search for the price. No contract of a call that fixes a price rests on these words.
 use Rattle.std.specs.Prelude.{ℕ, ◌+◌, ◌-◌, ◌*◌, ◌<◌, ◌≤◌, min, cond, ◌&&◌, ◌⊎◌, List, [], ◌∷◌, nat_le, nat_lt}
-use Rattle.market.specs.Limits.{highest_price}
+use Rattle.market.specs.Limits.{highest_price, dollar, fine_step, cent}
 use Rattle.market.specs.Prices.{Permitted}
+use Rattle.pricing.specs.Limits.{fine_prices}
 use Rattle.pricing.specs.declared.level.Level.{Level}
 use Rattle.pricing.specs.Books.{Book, levels, demand_at, supply_at, wanted_above, offered_below}
 
 -- the price of an entry that has shares above q, else the highest price there is
-abbrev pub standing : ℕ → Level → ℕ
-standing q l = cond (nat_lt q l.price && nat_lt 0 l.shares) l.price highest_price
+abbrev pub standing_above : ℕ → Level → ℕ
+standing_above q l = cond (nat_lt q l.price && nat_lt 0 l.shares) l.price highest_price
 
 -- the lowest price above q at which shares stand, at most the highest price there is
 abbrev pub next_above : ℕ → List Level → ℕ
 next_above q [] = highest_price
-next_above q (l ∷ ls) = min (standing q l) (next_above q ls)
+next_above q (l ∷ ls) = min (standing_above q l) (next_above q ls)
 
 abbrev pub next_price : Book → ℕ → ℕ
 next_price b q =
@@ -21,7 +22,7 @@ next_price b q =
 
 -- the i-th permitted price, from 1
 abbrev pub price_at : ℕ → ℕ
-price_at i = cond (nat_le i 9999) (2 * i) (20000 + 200 * (i - 10000))
+price_at i = cond (nat_le i fine_prices) (fine_step * i) (dollar + cent * (i - (fine_prices + 1)))
 
 -- of a and b around r the nearer one; midway, r itself
 abbrev pub nearer_of : ℕ → ℕ → ℕ → ℕ

@@ -1,21 +1,26 @@
-// Why a close fixes no price. A close that fixes one has the cause number 0.
+//! Why a close fixes no price. A close that fixes one has the cause number 0.
 ghost use Rattle.std.specs.Prelude.{◌≡◌, Some};
-ghost use Rattle.pricing.specs.Closing.{cause_number};
+ghost use Rattle.pricing.specs.Outcomes.{cause_number};
 ghost use Rattle.pricing.specs.Causes.{cause_words};
 
 use std::error::Error;
 use std::fmt;
 
+/// Why a close fixes no price, with the number of each cause (docs/RULES.md, "What a close answers").
 #[derive(Clone, Copy, Debug, PartialEq, Eq, Hash)]
 pub enum Cause {
+    /// The candidates count zero: no price finds both a buyer and a seller.
     NothingToTrade = 1,
+    /// The best bid equals the best offer or is above it.
     LockedOrCrossed = 2,
+    /// Several candidates, and no reference to choose by: no last eligible sale, and no bid or no offer.
     NoReference = 3,
+    /// Trading in the security is halted.
     Halted = 4,
 }
 
 impl Cause {
-    // What it says, in words.
+    /// What it says, in words.
     pub fn words(self) -> &'static str
         ensures { result.now ≡ cause_words self }
     {

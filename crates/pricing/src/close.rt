@@ -1,24 +1,41 @@
-// The outcome of a close: the SNAP Price with its count, or why there is none.
+//! The outcome of a close: the SNAP Price with its count, or why there is none.
 ghost use Rattle.std.specs.Prelude.{◌≡◌, ℕ, Err};
 ghost use Rattle.pricing.specs.declared.cause.Cause.TheVariants.{NothingToTrade};
 ghost use Rattle.pricing.specs.Books.{Sound, count_at};
-ghost use Rattle.pricing.specs.Closing.{Best, Closing, Orderly, Snapped, touching, reference_of};
+ghost use Rattle.pricing.specs.Counting.{counting_book};
+ghost use Rattle.pricing.specs.Outcomes.{Best, IsOutcome, Orderly, Snapped, is_locked, is_crossed, touching, reference_of};
 
 use crate::cause::Cause;
-use crate::ladder::{PRICES, nearest, place_near};
+use crate::ladder::{nearest, place_near};
+use crate::limits::PRICES;
 use crate::range::{highest, lowest};
 use crate::view::BookView;
-use market::side::Side;
+use market::Side;
 
-// Whether the best bid equals the best offer or is above it.
+/// Whether the best bid equals the best offer: the outside market is locked. Prices are in points, none where a side quotes
+/// nothing, here and below.
+pub fn is_locked(bid: Option<u32>, offer: Option<u32>) -> bool
+    ensures { result ≡ is_locked bid offer }
+{
+    bid.zip(offer).is_some_and(|(bid, offer)| bid == offer)
+}
+
+/// Whether the best bid is above the best offer: the outside market is crossed.
+pub fn is_crossed(bid: Option<u32>, offer: Option<u32>) -> bool
+    ensures { result ≡ is_crossed bid offer }
+{
+    bid.zip(offer).is_some_and(|(bid, offer)| bid > offer)
+}
+
+/// Whether the best bid equals the best offer or is above it: the outside market is locked or crossed.
 pub fn locked_or_crossed(bid: Option<u32>, offer: Option<u32>) -> bool
     ensures { result ≡ touching bid offer }
 {
     bid.zip(offer).is_some_and(|(bid, offer)| bid >= offer)
 }
 
-// The price by which one of several candidates is chosen: the last eligible sale, if it is not 0,
-// else halfway between the best bid and the best offer.
+/// The price by which one of several candidates is chosen: the last eligible sale, if it is not 0,
+/// else halfway between the best bid and the best offer.
 pub fn reference_price(last_sale: u32, bid: Option<u32>, offer: Option<u32>) -> Option<u32>
     ensures { result ≡ reference_of last_sale bid offer }
 {
@@ -49,9 +66,10 @@ fn snap<B: BookView>(view: &B, reference: Option<u32>) -> Result<(u32, u64), Cau
     Ok((price, count))
 }
 
-// The outcome by the order of the causes.
+// The outcome by the order of the causes. Here it is decided on which view the price is chosen: every quote counts, so it is the
+// view as it is.
 fn settle<B: BookView>(view: &B, halted: bool, last_sale: u32) -> Result<(u32, u64), Cause>
-    ensures { Sound (B.book view.now) → Closing halted (B.book view.now) last_sale result }
+    ensures { Sound (B.book view.now) → IsOutcome halted (B.book view.now) last_sale result }
 {
     if halted {
         return Err(Cause::Halted);
@@ -64,15 +82,17 @@ fn settle<B: BookView>(view: &B, halted: bool, last_sale: u32) -> Result<(u32, u
     snap(view, reference_price(last_sale, bid, offer))
 }
 
-// That a book is of permitted prices is asked before, by those who bring it, and it is a premise of clauses here and no
-// invariant of a view: without it the answer is free, and still comes.
-//
-// The outcome of a close on a book of permitted prices: the SNAP Price and its count, or the cause why
-// there is none. On any other book it answers too, but its answer is free.
+/// The outcome of a close on a book of permitted prices: the SNAP Price in points and its count in shares, or the cause why there is
+/// none. `last_sale` is the last eligible sale in points, 0 where there was none.
+///
+/// That the prices are permitted is asked before, by those who bring a book, and it is a premise of clauses here and no invariant of
+/// a view: on any other book it answers too, but its answer is free.
 pub fn close_price<B: BookView>(view: &B, halted: bool, last_sale: u32) -> Result<(u32, u64), Cause>
-    ensures outcome { Sound (B.book view.now) → Closing halted (B.book view.now) last_sale result }
+    ensures outcome { Sound (B.book view.now)
+        → IsOutcome halted (B.book view.now) last_sale result }
     ensures best { Sound (B.book view.now) → Best (B.book view.now) result }
-    ensures nothing { Sound (B.book view.now) → Orderly halted (B.book view.now) → ((q : ℕ) → count_at (B.book view.now) q ≡ 0) → result ≡ Err NothingToTrade }
+    ensures nothing { Sound (B.book view.now) → Orderly halted (B.book view.now)
+        → ((q : ℕ) → count_at (counting_book (B.book view.now)) q ≡ 0) → result ≡ Err NothingToTrade }
 {
     settle(view, halted, last_sale)
 }

@@ -1,21 +1,18 @@
-// The permitted prices in their order, and the choice among a row of them.
-ghost use Rattle.std.specs.Prelude.{◌≡◌, ℕ, ◌<◌, ◌≤◌, Some};
+//! The permitted prices in their order, and the choice among a row of them.
+ghost use Rattle.std.specs.Prelude.{◌≡◌, ◌+◌, ℕ, ◌<◌, ◌≤◌, Some};
+ghost use Rattle.market.specs.Limits.{lowest_price, highest_price};
 ghost use Rattle.market.specs.Prices.{Permitted};
+ghost use Rattle.pricing.specs.Limits.{permitted_prices};
 ghost use Rattle.pricing.specs.Ranges.{price_at, nearer_of, Around, Within};
 ghost use Rattle.pricing.specs.Candidates.{Chosen};
 
-use market::limits::{CENT, DOLLAR, FINE_STEP};
+use crate::limits::FINE_PRICES;
+use market::{CENT, DOLLAR, FINE_STEP};
 use std::cmp::Ordering;
 
-// How many permitted prices there are.
-pub(crate) const PRICES: u32 = 20_009_900;
-
-// How many of them are below a dollar.
-const FINE_PRICES: u32 = 9_999;
-
-// The i-th permitted price, from 1.
+// The i-th permitted price, counted from 1, in points.
 pub(crate) fn price_at(i: u32) -> u32
-    requires { i ≤ 20009901 }
+    requires { i ≤ permitted_prices + 1 }
     ensures { result ≡ price_at i }
 {
     if i <= FINE_PRICES {
@@ -28,7 +25,7 @@ pub(crate) fn price_at(i: u32) -> u32
 // The neighbouring permitted prices that hold a price between them: one at or below it, the other above. A pair, which its only
 // caller takes apart at once.
 fn neighbours(price: u32) -> (u32, u32)
-    requires { (2 ≤ price) × (price < 4000000000) }
+    requires { (lowest_price ≤ price) × (price < highest_price) }
     ensures { Around price result.0 result.1 }
 {
     let step = if price < DOLLAR { FINE_STEP } else { CENT };
@@ -51,8 +48,9 @@ fn nearer(reference: u32, below: u32, above: u32) -> u32
 
 // The price nearest to the reference from `low` to `high`; midway between two, the reference itself.
 pub(crate) fn nearest(low: u32, high: u32, reference: u32) -> u32
-    requires { (2 ≤ low) × (high ≤ 4000000000) }
-    ensures { Permitted low → Permitted high → low ≤ high → Chosen (Within low high) (Some reference) result }
+    requires { (lowest_price ≤ low) × (high ≤ highest_price) }
+    ensures { Permitted low → Permitted high → low ≤ high
+        → Chosen (Within low high) (Some reference) result }
 {
     if reference <= low {
         return low;

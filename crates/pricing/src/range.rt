@@ -1,9 +1,11 @@
-// The candidates of a book of permitted prices stand in a row: the lowest of them, and the highest.
+//! The candidates of a book of permitted prices stand in a row: the lowest of them, and the highest.
 ghost use Rattle.std.specs.Prelude.{◌+◌, ◌<◌, ◌≤◌};
+ghost use Rattle.market.specs.Limits.{lowest_price, highest_price};
 ghost use Rattle.pricing.specs.Books.{Sound};
 ghost use Rattle.pricing.specs.Ranges.{Lowest, Highest};
 
-use crate::ladder::{PRICES, price_at};
+use crate::ladder::price_at;
+use crate::limits::PRICES;
 use crate::view::BookView;
 
 // The next place to look at, strictly between two others: the hint, then a step away from the one bound that was looked at, and
@@ -23,7 +25,7 @@ fn next_place(low: u32, high: u32, hint: u32, step: u32) -> u32
 
 // The least permitted price at which what is wanted above it can be had. It is looked for from the hint outwards; any hint will do.
 pub(crate) fn lowest<B: BookView>(view: &B, hint: u32) -> u32
-    ensures inside { (2 ≤ result) × (result ≤ 4000000000) }
+    ensures inside { (lowest_price ≤ result) × (result ≤ highest_price) }
     ensures lowest { Sound (B.book view.now) → Lowest (B.book view.now) result }
 {
     // The permitted prices are numbered and not listed: there is no slice to search.
@@ -46,9 +48,10 @@ pub(crate) fn lowest<B: BookView>(view: &B, hint: u32) -> u32
 // The greatest permitted price at which what is offered below it is wanted. Where the shares wanted above
 // the lowest candidate are just those to be had at it, this is the next price at which shares stand.
 pub(crate) fn highest<B: BookView>(view: &B, lowest: u32) -> u32
-    requires { lowest ≤ 4000000000 }
-    ensures inside { result ≤ 4000000000 }
-    ensures highest { Sound (B.book view.now) → Lowest (B.book view.now) lowest → Highest (B.book view.now) result }
+    requires { lowest ≤ highest_price }
+    ensures inside { result ≤ highest_price }
+    ensures highest { Sound (B.book view.now) → Lowest (B.book view.now) lowest
+        → Highest (B.book view.now) result }
 {
     if view.demand(lowest + 1) == view.supply(lowest) {
         view.next_price(lowest)

@@ -3,3 +3,4 @@ pub mod Orders
 pub mod Listed
 pub mod Ranks
 pub mod Stays
+pub mod Removal

@@ -1,4 +1,4 @@
 pub mod Ranked
-pub mod Held
+pub mod Entries
 pub mod Laws
 pub mod Texts

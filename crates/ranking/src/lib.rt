@@ -1,8 +1,17 @@
+//! Rank order: what it is to go ahead of another, and a table over lent rows whose entries stand so.
+
 #![tactic(auto)]
 
-pub mod full;
-pub mod laws;
-pub mod rank;
-pub mod rows;
-pub mod seat;
-pub mod table;
+mod full;
+mod laws;
+mod rank;
+mod rows;
+mod seating;
+mod table;
+
+pub use full::Full;
+pub use laws::ranking_laws;
+pub use rank::Ranking;
+pub use rows::first_rows;
+pub use seating::seat;
+pub use table::RankedTable;

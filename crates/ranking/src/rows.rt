@@ -1,7 +1,7 @@
-// The first rows of a table: its rows are fixed memory, with the number of used ones beside them.
+//! The first rows of a table: its rows are fixed memory, with the number of used ones beside them.
 ghost use Rattle.std.specs.Prelude.{◌≡◌, ◌≤◌, length, take};
 
-// The first `used` rows; all of them where there are fewer.
+/// The first `used` rows; all of them where there are fewer.
 pub fn first_rows<T>(rows: &[T], used: usize) -> &[T]
     ensures rows { result.now ≡ take used rows.now }
     ensures within { length result.now ≤ length rows.now }

@@ -1,3 +1,7 @@
+//! Prices and counts as people read them.
+
 #![tactic(auto)]
 
-pub mod numbers;
+mod numbers;
+
+pub use numbers::{Column, Dollars, Grouped};

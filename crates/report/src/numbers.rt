@@ -1,11 +1,11 @@
-// Numbers as market operations reads them.
+//! Counts and prices as market operations reads them.
 ghost use Rattle.std.specs.Prelude.{◌≡◌};
 ghost use Rattle.report.specs.Numbers.{grouped_width};
 
-use market::limits::DOLLAR;
+use market::DOLLAR;
 use std::fmt;
 
-// Shares, or any count, in groups of three digits.
+/// Shares, or any count, in groups of three digits with a comma between them.
 #[derive(Clone, Copy, Debug, PartialEq, Eq)]
 pub struct Grouped(pub u64);
 
@@ -33,7 +33,7 @@ impl fmt::Display for Grouped {
     }
 }
 
-// A price in dollars, from its points.
+/// A price in dollars with five digits after the point, from its points.
 #[derive(Clone, Copy, Debug, PartialEq, Eq)]
 pub struct Dollars(pub u32);
 
@@ -60,7 +60,7 @@ fn grouped_width(n: u64) -> usize
     (tens + 1 + tens / 3).min(14)
 }
 
-// A count at the right end of a column.
+/// A count, as `Grouped` writes it, at the right end of a column of `WIDTH` characters; blanks fill what is left of it.
 #[derive(Clone, Copy, Debug, PartialEq, Eq)]
 pub struct Column<const WIDTH: usize>(pub u64);
 

@@ -1,12 +1,12 @@
 -- The walk over rows and quotes: what is written and what is still to come are the tickets.
-use Rattle.std.proofs.Common.{◌≡◌, ℕ, ◌+◌, ◌-◌, ◌<◌, ◌≤◌, min, cond, ◌&&◌, ltb, List, [], ◌∷◌, map, length, get_or, take, drop, set, sym, refl, ap, ◌∙◌, false, arith, length-drop}
+use Rattle.std.proofs.Common.{◌≡◌, ℕ, ◌+◌, ◌-◌, ◌<◌, ◌≤◌, min, cond, ◌&&◌, ltb, List, [], ◌∷◌, map, length, get_or, take, drop, set, sym, refl, ap, ◌∙◌, arith, length-drop}
 use Rattle.std.proofs.lemmas.List.{length-map, get_or-map, take_all, drop_more}
 use Rattle.market.specs.declared.quote.Quote.{Quote}
 use Rattle.orders.specs.declared.row.OrderRow.{OrderRow}
 use Rattle.orders.specs.Rows.{empty_row}
 use Rattle.routing.specs.declared.ticket.Ticket.{Ticket}
 use Rattle.market.specs.Markets.{no_quote}
-use Rattle.routing.specs.Tickets.{rests, sizes, ticket_of, tickets, Ticketed, TicketedIn}
+use Rattle.routing.specs.Tickets.{rests, sizes, ticket_for, ticket_of, tickets, Ticketed, TicketedIn}
 use Rattle.routing.specs.Shares.{Tie, put, ties}
 use Rattle.routing.proofs.Count.{ties_within}
 use Rattle.routing.proofs.Write.{Written, written_none, written_all, put_done}
@@ -58,13 +58,7 @@ module _ (rows : List OrderRow) (quotes : List Quote) (routed : ℕ) (from : Lis
       (out_is : out' ≡ cond (ltb 0 t.shares && ltb count (length out)) (set out count t) out)
       (r s c : ℕ) (r_is : r ≡ (get_or waiting 0 empty_row).rest - filled) (s_is : s ≡ (get_or standing 0 no_quote).shares - taken)
       (c_is : c ≡ min left (min r s))
-      (t_is : t ≡ record {
-        order = (get_or waiting 0 empty_row).number;
-        venue = (get_or standing 0 no_quote).venue;
-        price = (get_or standing 0 no_quote).price;
-        shares = c;
-        reported = false;
-      }) where
+      (t_is : t ≡ ticket_for (get_or waiting 0 empty_row) (get_or standing 0 no_quote) c) where
     order_there : get_or rows g.i empty_row ≡ get_or waiting 0 empty_row
     order_there = place_is rows g.i empty_row waiting g.orders_are some
 

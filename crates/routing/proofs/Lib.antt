@@ -9,7 +9,7 @@ pub mod Owing
 pub mod Cursors
 pub mod Filled
 pub mod Filling
-pub mod Closing
+pub mod CloseTickets
 pub mod Named
 pub mod Totals
 pub mod Each

@@ -8,7 +8,7 @@ use Rattle.market.specs.declared.quote.Quote.{Quote}
 use Rattle.market.specs.Markets.{no_quote}
 use Rattle.orders.specs.declared.row.OrderRow.{OrderRow}
 use Rattle.orders.specs.Rows.{empty_row}
-use Rattle.routing.specs.Shares.{Tie, start, share, ties, of_order, of_quote}
+use Rattle.routing.specs.Shares.{Tie, shares_before, share, ties, of_order, of_quote}
 use Rattle.routing.specs.Tickets.{rests, sizes, ticket_of, of_number, to_venue}
 use Rattle.routing.specs.Laws.{OnlyOrder, OnlyQuote, OrderTicketed, QuoteTicketed}
 use Rattle.routing.proofs.Tied.{order_tied, quote_tied, ties_orders, ties_quotes}
@@ -59,7 +59,7 @@ order_ticketed n rows quotes i l only enough =
     order_named rows quotes i only (ties n (rests rows) (sizes quotes))
     (subst (λ k. AllByRecursion (λ t. t.order < k) (ties n (rests rows) (sizes quotes))) rests-long (ties_orders n (rests rows) (sizes quotes)))
     ∙ order_tied n (rests rows) (sizes quotes) i (omega (arith, rests-long)) enough
-    ∙ ap (λ r. share n r (start (rests rows) i)) (get_or-map (λ w. w.rest) rows i empty_row 0 l)
+    ∙ ap (λ r. share n r (shares_before (rests rows) i)) (get_or-map (λ w. w.rest) rows i empty_row 0 l)
 
 pub quote_ticketed : QuoteTicketed
 quote_ticketed n rows quotes j l only enough =
@@ -67,4 +67,4 @@ quote_ticketed n rows quotes j l only enough =
     quote_named rows quotes j only (ties n (rests rows) (sizes quotes))
     (subst (λ k. AllByRecursion (λ t. t.quote < k) (ties n (rests rows) (sizes quotes))) sizes-long (ties_quotes n (rests rows) (sizes quotes)))
     ∙ (quote_tied n (rests rows) (sizes quotes) j (omega (arith, sizes-long)) enough).0
-    ∙ ap (λ s. share n s (start (sizes quotes) j)) (get_or-map (λ x. x.shares) quotes j no_quote 0 l)
+    ∙ ap (λ s. share n s (shares_before (sizes quotes) j)) (get_or-map (λ x. x.shares) quotes j no_quote 0 l)

@@ -10,8 +10,8 @@ use Rattle.market.specs.Best.{best_of, best_price}
 use Rattle.pricing.specs.declared.level.Level.{Level}
 use Rattle.pricing.specs.Books.{Book, quote_level, levels, at_or_above, at_or_below, above, below}
 use Rattle.pricing.proofs.Levels.{sum_by_map}
-use Rattle.pricing.specs.Closing.{touching, best_on}
-use Rattle.routing.specs.Owed.{better_part, reach_part, better, reach, owed_of}
+use Rattle.pricing.specs.Outcomes.{touching, best_on}
+use Rattle.routing.specs.Owed.{better_part, reach_part, quoted_better, reach, owed_of}
 use Rattle.routing.specs.Laws.{OneSideOwes, OwedWithin, QuotedTo, Counted, Beyond}
 
 -- one quote more in a sum
@@ -75,11 +75,11 @@ above_most p ls = sum_by-le-sum_by _ _ ls (λ l. grind (arith, nat_tests))
 
 -- sums over quotes, with and without their venues
 module _ (p : ℕ) (xs : List Quote) where
-  pub better_below : better Buy p xs ≡ below p (levels xs)
+  pub better_below : quoted_better Buy p xs ≡ below p (levels xs)
   unfolding below
   better_below = sym (sum_by_map (λ l. cond (ltb l.price p) l.shares 0) quote_level xs)
 
-  pub better_above : better Sell p xs ≡ above p (levels xs)
+  pub better_above : quoted_better Sell p xs ≡ above p (levels xs)
   unfolding above
   better_above = sym (sum_by_map (λ l. cond (ltb p l.price) l.shares 0) quote_level xs)
 
@@ -137,7 +137,7 @@ pub beyond_lem : Beyond
 beyond_lem b p = (λ more. omega arith, λ more. omega arith)
 
 -- a side owes no more than is quoted
-pub owed_quoted : (side : Side) (p own other : ℕ) (xs : List Quote) → owed_of (better side p xs) (reach side p xs) own other ≤ sum_by (λ x. x.shares) xs
+pub owed_quoted : (side : Side) (p own other : ℕ) (xs : List Quote) → owed_of (quoted_better side p xs) (reach side p xs) own other ≤ sum_by (λ x. x.shares) xs
 owed_quoted side p own other xs = omega (
   arith,
   sum_by-le-sum_by (better_part side p) (λ x. x.shares) xs (part_most side),

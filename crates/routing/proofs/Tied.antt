@@ -3,9 +3,9 @@ use Rattle.std.proofs.Common.{◌≡◌, ℕ, zero, suc, ◌+◌, ◌<◌, ◌�
 use Rattle.std.specs.List.{AllByRecursion}
 use Rattle.std.proofs.ByRecursion.{All-append, All-weaker}
 use Rattle.std.proofs.lemmas.Bool.Decides.{nat_tests}
-use Rattle.routing.specs.Shares.{Tie, start, cell, across, down, put, line, lines, ties, of_order, of_quote}
+use Rattle.routing.specs.Shares.{Tie, shares_before, cell, across, down, put, line, lines, ties, of_order, of_quote}
 use Rattle.routing.specs.Laws.{OrderTied, QuoteTied}
-use Rattle.routing.proofs.Sums.{across_is, down_is}
+use Rattle.routing.proofs.Sums.{shares_before-cons, across_is, down_is}
 
 pub of_order_append : (k : ℕ) (xs ys : List Tie) → of_order k (xs ++ ys) ≡ of_order k xs + of_order k ys
 of_order_append k [] ys = omega arith
@@ -40,7 +40,7 @@ order_lines_past k n i a (r ∷ rs) j b ss h =
     )
 
 order_lines : (d k n i a : ℕ) (rs : List ℕ) (j b : ℕ) (ss : List ℕ) → k ≡ i + d → d < length rs
-    → of_order k (lines n i a rs j b ss) ≡ across n (a + start rs d) (get_or rs d 0) b ss
+    → of_order k (lines n i a rs j b ss) ≡ across n (a + shares_before rs d) (get_or rs d 0) b ss
 order_lines d k n i a [] j b ss e h = absurd (omega arith)
 order_lines zero k n i a (r ∷ rs) j b ss e h =
     let q : a + 0 ≡ a = omega arith in
@@ -52,7 +52,7 @@ order_lines zero k n i a (r ∷ rs) j b ss e h =
       order_lines_past k n (i + 1) (a + r) rs j b ss (omega arith),
     ))
 order_lines (suc d) k n i a (r ∷ rs) j b ss e h =
-    let q : (a + r) + start rs d ≡ a + (r + start rs d) = omega arith in
+    let q : (a + r) + shares_before rs d ≡ a + shares_before (r ∷ rs) (suc d) = omega (arith, shares_before-cons r rs d) in
     let ih = rw q at (order_lines d k n (i + 1) (a + r) rs j b ss (omega arith) (omega arith)) in
     grind (arith, nat_tests, of_order_append k (line n i a r j b ss) (lines n (i + 1) (a + r) rs j b ss), order_line k n i a r j b ss, ih)
 
@@ -95,8 +95,8 @@ ties_quotes n rs ss =
 
 pub order_tied : OrderTied
 order_tied n rs ss i h k =
-    let e : 0 + start rs i ≡ start rs i = omega arith in
-    omega (arith, rw e at (order_lines i i n 0 0 rs 0 0 ss (omega arith) h), across_is n (start rs i) (get_or rs i 0) 0 ss)
+    let e : 0 + shares_before rs i ≡ shares_before rs i = omega arith in
+    omega (arith, rw e at (order_lines i i n 0 0 rs 0 0 ss (omega arith) h), across_is n (shares_before rs i) (get_or rs i 0) 0 ss)
 
 quote_line_past : (k n i a r j b : ℕ) (ss : List ℕ) → k < j → of_quote k (line n i a r j b ss) ≡ 0
 quote_line_past k n i a r j b [] h = refl
@@ -104,17 +104,17 @@ quote_line_past k n i a r j b (s ∷ ss) h =
     grind (arith, nat_tests, quote_put k i j (cell n a r b s) (line n i a r (j + 1) (b + s) ss), quote_line_past k n i a r (j + 1) (b + s) ss (omega arith))
 
 quote_line : (d k n i a r j b : ℕ) (ss : List ℕ) → k ≡ j + d → d < length ss
-    → of_quote k (line n i a r j b ss) ≡ cell n a r (b + start ss d) (get_or ss d 0)
+    → of_quote k (line n i a r j b ss) ≡ cell n a r (b + shares_before ss d) (get_or ss d 0)
 quote_line d k n i a r j b [] e h = absurd (omega arith)
 quote_line zero k n i a r j b (s ∷ ss) e h =
     grind (arith, nat_tests, quote_put k i j (cell n a r b s) (line n i a r (j + 1) (b + s) ss), quote_line_past k n i a r (j + 1) (b + s) ss (omega arith))
 quote_line (suc d) k n i a r j b (s ∷ ss) e h =
-    let q : (b + s) + start ss d ≡ b + (s + start ss d) = omega arith in
+    let q : (b + s) + shares_before ss d ≡ b + shares_before (s ∷ ss) (suc d) = omega (arith, shares_before-cons s ss d) in
     let ih = rw q at (quote_line d k n i a r (j + 1) (b + s) ss (omega arith) (omega arith)) in
     grind (arith, nat_tests, quote_put k i j (cell n a r b s) (line n i a r (j + 1) (b + s) ss), ih)
 
 quote_lines : (d k n i a : ℕ) (rs : List ℕ) (j b : ℕ) (ss : List ℕ) → k ≡ j + d → d < length ss
-    → of_quote k (lines n i a rs j b ss) ≡ down n a rs (b + start ss d) (get_or ss d 0)
+    → of_quote k (lines n i a rs j b ss) ≡ down n a rs (b + shares_before ss d) (get_or ss d 0)
 quote_lines d k n i a [] j b ss e h = refl
 quote_lines d k n i a (r ∷ rs) j b ss e h =
     let x = of_quote_append k (line n i a r j b ss) (lines n (i + 1) (a + r) rs j b ss) in
@@ -124,13 +124,13 @@ quote_lines d k n i a (r ∷ rs) j b ss e h =
 
 pub quote_tied : QuoteTied
 quote_tied n rs ss j h k =
-    let e : 0 + start ss j ≡ start ss j = omega arith in
+    let e : 0 + shares_before ss j ≡ shares_before ss j = omega arith in
     let x = rw e at (quote_lines j j n 0 0 rs 0 0 ss (omega arith) h) in
-    let y = down_is n 0 rs (start ss j) (get_or ss j 0) in
+    let y = down_is n 0 rs (shares_before ss j) (get_or ss j 0) in
     (omega arith, λ l. omega arith)
 
 -- a quote's ties never come to more than it has
 pub of_quote_most : (n : ℕ) (rs ss : List ℕ) (j : ℕ) → j < length ss → of_quote j (ties n rs ss) ≤ get_or ss j 0
 of_quote_most n rs ss j h =
-    let e : 0 + start ss j ≡ start ss j = omega arith in
-    omega (arith, rw e at (quote_lines j j n 0 0 rs 0 0 ss (omega arith) h), down_is n 0 rs (start ss j) (get_or ss j 0))
+    let e : 0 + shares_before ss j ≡ shares_before ss j = omega arith in
+    omega (arith, rw e at (quote_lines j j n 0 0 rs 0 0 ss (omega arith) h), down_is n 0 rs (shares_before ss j) (get_or ss j 0))

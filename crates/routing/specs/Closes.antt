@@ -10,6 +10,8 @@ use Rattle.routing.specs.Tickets.{tickets}
 
 -- of the rows of both sides and the quotes of both, each in rank order; on a market that is neither locked nor
 -- crossed only one side can owe
-abbrev pub close_tickets : Book → ℕ → List OrderRow → List OrderRow → List Quote → List Quote → List Ticket
+abbrev pub close_tickets : Book → ℕ → (buys sells : List OrderRow) (bids offers : List Quote) → List Ticket
 close_tickets b price buys sells bids offers =
-    cond (nat_lt 0 (owed Buy b price)) (tickets (owed Buy b price) buys offers) (tickets (owed Sell b price) sells bids)
+    cond (nat_lt 0 (owed Buy b price))
+    (tickets (owed Buy b price) buys offers)
+    (tickets (owed Sell b price) sells bids)

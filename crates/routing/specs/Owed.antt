@@ -16,22 +16,27 @@ abbrev pub reach_part : Side → ℕ → Quote → ℕ
 reach_part Buy p x = cond (nat_le x.price p) x.shares 0
 reach_part Sell p x = cond (nat_le p x.price) x.shares 0
 
-abbrev pub better : Side → ℕ → List Quote → ℕ
-better side p quotes = sum_by (better_part side p) quotes
+-- the shares that are quoted better than a price, and those that are quoted at it or better
+abbrev pub quoted_better : Side → ℕ → List Quote → ℕ
+quoted_better side p quotes = sum_by (better_part side p) quotes
 
 abbrev pub reach : Side → ℕ → List Quote → ℕ
 reach side p quotes = sum_by (reach_part side p) quotes
 
 -- from what is better, what is better or at the price, what the side has, and what the other side has
 abbrev pub owed_of : ℕ → ℕ → ℕ → ℕ → ℕ
-owed_of bettered reached own other = bettered + min (reached - bettered) (own - (bettered + other))
+owed_of better reached own other = better + min (reached - better) (own - (better + other))
 
 -- the executable shares of a side's orders at a price
-abbrev pub executable : Side → Book → ℕ → ℕ
-executable Buy b p = executable_at Buy p b.buys
-executable Sell b p = executable_at Sell p b.sells
+abbrev pub executable_orders : Side → Book → ℕ → ℕ
+executable_orders Buy b p = executable_at Buy p b.buys
+executable_orders Sell b p = executable_at Sell p b.sells
 
 -- buys owe to offers, sells to bids
 abbrev pub owed : Side → Book → ℕ → ℕ
-owed Buy b p = owed_of (better Buy p b.offers) (reach Buy p b.offers) (executable Buy b p) (executable Sell b p)
-owed Sell b p = owed_of (better Sell p b.bids) (reach Sell p b.bids) (executable Sell b p) (executable Buy b p)
+owed Buy b p =
+    owed_of (quoted_better Buy p b.offers) (reach Buy p b.offers)
+    (executable_orders Buy b p) (executable_orders Sell b p)
+owed Sell b p =
+    owed_of (quoted_better Sell p b.bids) (reach Sell p b.bids)
+    (executable_orders Sell b p) (executable_orders Buy b p)

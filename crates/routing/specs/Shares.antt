@@ -1,5 +1,5 @@
 -- Shares on a line: each entry of a ranked list has an interval, which begins where the ones ahead of it end.
-use Rattle.std.specs.Prelude.{ℕ, zero, suc, ◌+◌, ◌-◌, min, max, cond, List, [], ◌∷◌, ◌++◌, take, ◌==◌, slice_index}
+use Rattle.std.specs.Prelude.{ℕ, zero, suc, ◌+◌, ◌-◌, min, max, cond, List, [], ◌∷◌, ◌++◌, take, sum, ◌==◌, slice_index}
 
 -- shares that tie the order at a place to the quote at a place
 pub record Tie : Type 0 where
@@ -7,13 +7,9 @@ pub record Tie : Type 0 where
   pub quote : ℕ
   pub shares : ℕ
 
-abbrev pub total : List ℕ → ℕ
-total [] = 0
-total (x ∷ xs) = x + total xs
-
--- where the i-th starts: what stands ahead of it
-abbrev pub start : List ℕ → ℕ → ℕ
-start xs i = total (take i xs)
+-- the shares ahead of the i-th, which is where it starts
+abbrev pub shares_before : List ℕ → ℕ → ℕ
+shares_before xs i = sum (take i xs)
 
 -- what an order with rest r and a shares ahead of it gets of k
 abbrev pub share : ℕ → ℕ → ℕ → ℕ

@@ -3,7 +3,7 @@ use Rattle.std.specs.Prelude.{◌≡◌, ℕ, min, false, cond, ◌&&◌, ◌==�
 use Rattle.market.specs.declared.quote.Quote.{Quote}
 use Rattle.market.specs.Markets.{no_quote}
 use Rattle.orders.specs.declared.row.OrderRow.{OrderRow}
-use Rattle.orders.specs.Rows.{empty_row}
+use Rattle.orders.specs.Tables.{nth_row}
 use Rattle.routing.specs.declared.ticket.Ticket.{Ticket}
 use Rattle.routing.specs.Shares.{Tie, ties}
 
@@ -16,15 +16,17 @@ rests rows = map (λ w. w.rest) rows
 abbrev pub sizes : List Quote → List ℕ
 sizes quotes = map (λ x. x.shares) quotes
 
--- the ticket of a tie names the order's number, and the quote's venue and price
+-- the quote at a place, counted from 0; none past the end
+abbrev pub nth_quote : List Quote → ℕ → Quote
+nth_quote quotes place = slice_index_or quotes place no_quote
+
+-- a ticket for shares of an order to a quote names the order's number, and the quote's venue and price
+abbrev pub ticket_for : OrderRow → Quote → ℕ → Ticket
+ticket_for w x shares = record empty_ticket { order = w.number; venue = x.venue; price = x.price; shares = shares }
+
+-- the ticket of a tie
 abbrev pub ticket_of : List OrderRow → List Quote → Tie → Ticket
-ticket_of rows quotes t = record {
-  order = (slice_index_or rows t.order empty_row).number;
-  venue = (slice_index_or quotes t.quote no_quote).venue;
-  price = (slice_index_or quotes t.quote no_quote).price;
-  shares = t.shares;
-  reported = false;
-}
+ticket_of rows quotes t = ticket_for (nth_row rows t.order) (nth_quote quotes t.quote) t.shares
 
 abbrev pub tickets : ℕ → List OrderRow → List Quote → List Ticket
 tickets routed rows quotes = map (ticket_of rows quotes) (ties routed (rests rows) (sizes quotes))
@@ -37,13 +39,15 @@ abbrev pub to_venue : ℕ → ℕ → List Ticket → ℕ
 to_venue venue price ts = sum_by (λ t. cond (t.venue == venue && t.price == price) t.shares 0) ts
 
 -- a table that begins with the tickets, and past them is as it was
-pub record Ticketed (routed : ℕ) (rows : List OrderRow) (quotes : List Quote) (before : List Ticket) (count : ℕ) (after : List Ticket) : Type 0 where
+pub record Ticketed (routed : ℕ) (rows : List OrderRow) (quotes : List Quote)
+    (before : List Ticket) (count : ℕ) (after : List Ticket) : Type 0 where
   pub count_is : count ≡ length (tickets routed rows quotes)
   pub written : take count after ≡ tickets routed rows quotes
   pub kept : drop count after ≡ drop count before
 
 -- the same of a table of any length: it begins with as many of the tickets as it has places for
-pub record TicketedIn (routed : ℕ) (rows : List OrderRow) (quotes : List Quote) (before : List Ticket) (count : ℕ) (after : List Ticket) : Type 0 where
+pub record TicketedIn (routed : ℕ) (rows : List OrderRow) (quotes : List Quote)
+    (before : List Ticket) (count : ℕ) (after : List Ticket) : Type 0 where
   pub count_is : count ≡ min (length (tickets routed rows quotes)) (length before)
   pub written : take count after ≡ take count (tickets routed rows quotes)
   pub kept : drop count after ≡ drop count before

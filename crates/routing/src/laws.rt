@@ -1,11 +1,12 @@
-// Laws of shares that are handed out in rank order, and of what is owed. Contracts stand on functions: what these
-// answer says nothing.
+//! Laws of shares that are handed out in rank order, and of what is owed. Contracts stand on functions: what these
+//! answer says nothing.
 ghost use Rattle.routing.specs.Laws.{HandedOut, AheadFirst, WalkAllots, RowsHanded, NoneKeptAhead, OrderTied, QuoteTied, TiesFill, NoOtherFills, TiesRanked, TiesFew, OrderTicketed, QuoteTicketed, TicketsFit, NoneEmpty, TicketsSome, OneSideOwes, CloseTicketed, OwedWithin, QuotedTo, Counted, Beyond, TicketsTotal, TicketsFill, QuotesFirst};
 
-use orders::row::OrderRow;
-use ranking::rank::Ranking;
+use orders::OrderRow;
+use ranking::Ranking;
 
-// Of every ranking of some entries.
+/// Laws of every ranking of some entries: what each entry gets of shares that are handed out. It answers 0. docs/RULES.md, "Shares
+/// in rank order".
 pub fn allotment_laws<E, R: Ranking<E>>() -> u8
     ensures handed { HandedOut }
     ensures rank { AheadFirst }
@@ -14,7 +15,8 @@ pub fn allotment_laws<E, R: Ranking<E>>() -> u8
     0
 }
 
-// Of every ranking of the rows of a side.
+/// Laws of every ranking of the rows of a side: what each row gets, and that none ahead of it keeps any. It answers 0.
+/// docs/RULES.md, "Shares in rank order".
 pub fn row_laws<R: Ranking<OrderRow>>() -> u8
     ensures handed { RowsHanded R.ahead }
     ensures kept { NoneKeptAhead }
@@ -22,7 +24,8 @@ pub fn row_laws<R: Ranking<OrderRow>>() -> u8
     0
 }
 
-// Of tickets, and of what a side owes.
+/// Laws of tickets, and of what a side owes. It answers 0. docs/RULES.md, "Tickets" and "What is owed to outside
+/// quotes".
 pub fn ticket_laws() -> u8
     ensures orders { OrderTied }
     ensures quotes { QuoteTied }

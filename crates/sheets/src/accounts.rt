@@ -1,14 +1,14 @@
-// What surveillance checks: that as much was bought here as was sold, and that no share of an order is lost.
+//! What surveillance checks: that as much was bought here as was sold, and that no share of an order is lost.
 ghost use Rattle.std.specs.Prelude.{◌≡◌, ◌≤◌, length, sum_by};
-ghost use Rattle.market.specs.Fits.{all_by};
+ghost use Rattle.std.specs.List.{list_all};
+ghost use Rattle.engine.specs.Limits.{order_rows};
 ghost use Rattle.orders.specs.Rows.{is_whole};
 
-use orders::record::OrderRecord;
-use orders::row::OrderRow;
+use orders::{OrderRecord, OrderRow};
 
 // The shares of a side that were executed here.
 pub(crate) fn executed_here(rows: &[OrderRow]) -> u64
-    requires few { length rows.now ≤ 512 }
+    requires few { length rows.now ≤ order_rows }
     ensures { result ≡ sum_by (λ w. w.here) rows.now }
 {
     rows.iter().map(|row| u64::from(row.here)).sum()
@@ -23,7 +23,7 @@ pub(crate) fn adds_up(row: OrderRow) -> bool
 
 // Whether they are for every order of a side.
 pub(crate) fn all_add_up(rows: &[OrderRow]) -> bool
-    ensures { result ≡ all_by is_whole rows.now }
+    ensures { result ≡ list_all is_whole rows.now }
 {
     rows.iter().all(|row| adds_up(*row))
 }

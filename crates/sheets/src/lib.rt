@@ -1,4 +1,11 @@
+//! The printed sheets of a desk: its book, its tickets, the depth of a close, its trades, its orders and its accounts.
+
 #![tactic(auto)]
 
-pub mod accounts;
-pub mod sheets;
+mod accounts;
+mod sheets;
+
+pub use sheets::{
+    print_book, print_checks, print_depth, print_orders, print_outstanding, print_tickets,
+    print_trades,
+};

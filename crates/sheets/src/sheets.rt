@@ -1,12 +1,11 @@
-// The sheets of the record: the book, the tickets, the prices around the price, the orders at the end.
+//! The sheets of the record: the book, the tickets, the prices around the price, the orders at the end.
 ghost use Rattle.std.specs.Prelude.{◌≡◌, codes, if◌then◌else◌};
 
 use crate::accounts::{adds_up, all_add_up, executed_here};
-use call_words::words::class_name;
-use desk::depth::{Depth, step_above, step_below};
-use desk::desk::Desk;
-use orders::row::OrderRow;
-use report::numbers::{Column, Dollars, Grouped};
+use call_words::class_name;
+use desk::{Depth, Desk, step_above, step_below};
+use orders::OrderRow;
+use report::{Column, Dollars, Grouped};
 use std::io;
 
 // A count of shares at the right end of a column of 10.
@@ -33,16 +32,16 @@ pub fn print_book(rt: &HostRuntime, desk: &Desk, when: &str) -> io::Result<()> {
     println!(rt; "")?;
     println!(rt; "The book as ranked, {when}")?;
     println!(rt; "  side  order  class     price          rest       out")?;
-    print_rows(rt, &desk.buys, "buy")?;
-    print_rows(rt, &desk.sells, "sell")
+    print_rows(rt, &desk.memory.buys, "buy")?;
+    print_rows(rt, &desk.memory.sells, "sell")
 }
 
-/// Prints the tickets of a desk.
+/// The tickets in the order of their numbers, each with whether it is reported.
 pub fn print_tickets(rt: &HostRuntime, desk: &Desk, when: &str) -> io::Result<()> {
     println!(rt; "")?;
     println!(rt; "The tickets, {when}")?;
     println!(rt; "  ticket  order  venue  price        shares  reported")?;
-    let tickets = (1..).zip(&desk.tickets);
+    let tickets = (1..).zip(&desk.memory.tickets);
     for (number, ticket) in tickets.filter(|(_, ticket)| ticket.shares > 0) {
         let order = ticket.order;
         let venue = ticket.venue;
@@ -54,7 +53,7 @@ pub fn print_tickets(rt: &HostRuntime, desk: &Desk, when: &str) -> io::Result<()
     Ok(())
 }
 
-/// Whether a ticket is still out, and which one first.
+/// Whether a ticket is still out, and which one first: a line of its own.
 pub fn print_outstanding(rt: &HostRuntime, desk: &mut Desk) -> io::Result<()>
     ensures { desk.new ≡ desk.old }
 {
@@ -67,7 +66,7 @@ pub fn print_outstanding(rt: &HostRuntime, desk: &mut Desk) -> io::Result<()>
     }
 }
 
-/// Demand, supply and count at the price, and at two steps below and above it.
+/// Demand, supply and count, in shares, at a price in points, and at the two steps below and above it.
 pub fn print_depth(rt: &HostRuntime, depth: &Depth, price: u32) -> io::Result<()> {
     println!(rt; "")?;
     println!(rt; "Around the price     demand        supply         count")?;
@@ -98,8 +97,8 @@ fn print_traders(rt: &HostRuntime, rows: &[OrderRow], did: &str) -> io::Result<(
 pub fn print_trades(rt: &HostRuntime, desk: &Desk) -> io::Result<()> {
     println!(rt; "")?;
     println!(rt; "Who traded")?;
-    print_traders(rt, &desk.buys, "bought")?;
-    print_traders(rt, &desk.sells, "sold")
+    print_traders(rt, &desk.memory.buys, "bought")?;
+    print_traders(rt, &desk.memory.sells, "sold")
 }
 
 // Two words for a bool, in a line, as long as a type's Display would be.
@@ -134,16 +133,16 @@ pub fn print_orders(rt: &HostRuntime, desk: &Desk) -> io::Result<()> {
     println!(rt;
         "  side order   entered      rest      here      away       out cancelled      late  sum"
     )?;
-    print_counts(rt, &desk.buys, "buy")?;
-    print_counts(rt, &desk.sells, "sell")
+    print_counts(rt, &desk.memory.buys, "buy")?;
+    print_counts(rt, &desk.memory.sells, "sell")
 }
 
-/// Prints what surveillance checks of a desk.
+/// What surveillance checks: that as much was bought here as was sold, and that no share of an order is lost.
 pub fn print_checks(rt: &HostRuntime, desk: &Desk) -> io::Result<()> {
-    let bought = executed_here(&desk.buys);
-    let sold = executed_here(&desk.sells);
+    let bought = executed_here(&desk.memory.buys);
+    let sold = executed_here(&desk.memory.sells);
     let even = verdict(bought == sold);
-    let whole = verdict(all_add_up(&desk.buys) && all_add_up(&desk.sells));
+    let whole = verdict(all_add_up(&desk.memory.buys) && all_add_up(&desk.memory.sells));
     let bought = Grouped(bought);
     let sold = Grouped(sold);
     println!(rt; "")?;

@@ -1,14 +1,13 @@
+//! Shows a venue table being filled, changed, halted and listed.
+
 #![tactic(auto)]
 
-// Shows a venue table being filled, changed, halted and listed.
-use market::best::best_price;
-use market::fit::quotes_fit;
-use market::refusal::Refusal;
-use market::side::Side;
-use market::source::QuoteSource;
-use market::venues::VenueTable;
-use report::numbers::{Dollars, Grouped};
+use market::{QuoteSource, Refusal, Side, VENUES, VenueTable, best_price, quotes_fit};
+use report::{Dollars, Grouped};
 use std::io;
+
+// The last venue that there is room for.
+const LAST_VENUE: u32 = VENUES as u32;
 
 // What came of a call, in words.
 fn print_answer(rt: &HostRuntime, call: &str, answer: Result<(), Refusal>) -> io::Result<()> {
@@ -69,7 +68,7 @@ fn fill(rt: &HostRuntime, table: &mut VenueTable) -> io::Result<()> {
     print_answer(
         rt,
         "venue 32 offers 500 at 200,200",
-        table.set(32, 2, 200_200, 500),
+        table.set(LAST_VENUE, 2, 200_200, 500),
     )
 }
 
@@ -78,7 +77,7 @@ fn refused(rt: &HostRuntime, table: &mut VenueTable) -> io::Result<()> {
     print_answer(
         rt,
         "venue 33 bids 100 at 200,000",
-        table.set(33, 1, 200_000, 100),
+        table.set(LAST_VENUE + 1, 1, 200_000, 100),
     )?;
     print_answer(
         rt,
@@ -104,7 +103,7 @@ fn main(rt: HostRuntime) -> io::Result<()> {
         "venue 7 bids 900 at 199,400",
         table.set(7, 1, 199_400, 900),
     )?;
-    print_answer(&rt, "venue 32 clears its offer", table.clear(32, 2))?;
+    print_answer(&rt, "venue 32 clears its offer", table.clear(LAST_VENUE, 2))?;
     table.set_halted(true);
     print_table(&rt, &table)?;
     table.set_halted(false);

@@ -4,13 +4,13 @@ use Rattle.std.proofs.lemmas.Bool.{and_parts, or_cases, leb-true, ltb-true, eqb-
 use Rattle.std.proofs.lemmas.Bool.Decides.{nat_tests}
 use Rattle.market.specs.declared.side.Side.TheVariants.{Buy, Sell}
 use Rattle.market.specs.Prices.{permitted, Permitted}
-use Rattle.market.specs.Fits.{all_by}
+use Rattle.std.specs.List.{list_all}
 use Rattle.market.proofs.Grid.{grid, permitted_since}
 use Rattle.pricing.specs.declared.level.Level.{Level}
 use Rattle.pricing.specs.declared.cause.Cause.TheVariants.{NothingToTrade, LockedOrCrossed, NoReference, Halted}
-use Rattle.pricing.specs.Books.{Book, levels, Standing, Sound, demand_at, supply_at, count_at, wanted_above}
+use Rattle.pricing.specs.Books.{Book, levels, AtPermitted, Sound, demand_at, supply_at, count_at, wanted_above}
 use Rattle.pricing.specs.Candidates.{Chosen}
-use Rattle.pricing.specs.Closing.{Outcome, Closing, Snapped, Orderly, touching, best_on, reference}
+use Rattle.pricing.specs.Outcomes.{Outcome, IsOutcome, Snapped, Orderly, touching, best_on, reference}
 use Rattle.pricing.specs.Ranges.{next_price, nearer_of, Within, Around, Lowest, Highest}
 use Rattle.pricing.proofs.Sides.{buyers_up}
 use Rattle.pricing.proofs.Rows.{lo_le_hi}
@@ -27,7 +27,7 @@ step_to p = cond (leb p 20000) 2 200
 
 -- every price is permitted
 abbrev standing : List Level → Bool
-standing ls = all_by (λ l. permitted l.price) ls
+standing ls = list_all (λ l. permitted l.price) ls
 
 abbrev pub is_sound : Book → Bool
 is_sound b = standing b.buys && (standing b.sells && (standing (levels b.bids) && standing (levels b.offers)))
@@ -68,7 +68,7 @@ abbrev pub decided : Book → ℕ → ℕ → Outcome
 decided b last lo = cond (touching (best_on Buy b) (best_on Sell b)) (Err LockedOrCrossed) (snapped_by b (reference b last) lo)
 
 -- the tests say what they should
-stands : (ls : List Level) → standing ls ≡ true → Standing ls
+stands : (ls : List Level) → standing ls ≡ true → AtPermitted ls
 stands [] h = tt
 stands (l ∷ ls) h =
     let parts = and_parts (permitted l.price) (standing ls) h in
@@ -196,16 +196,16 @@ module _ (b : Book) (sound : Sound b) (lo : ℕ) (l : Lowest b lo) where
   count_by ref true e = nothing b sound lo l (eqb-true (count_at b lo) 0 e)
   count_by ref false e = single_by ref (eqb lo (high_of b lo)) refl (omega (arith, eqb-false (count_at b lo) 0 e))
 
-  orderly_closing : (last : ℕ) (x : Outcome) → Orderly false b → Snapped b (reference b last) x → Closing false b last x
+  orderly_closing : (last : ℕ) (x : Outcome) → Orderly false b → Snapped b (reference b last) x → IsOutcome false b last x
   orderly_closing last (Ok x) o s = (o, s)
   orderly_closing last (Err NothingToTrade) o s = (o, s)
   orderly_closing last (Err LockedOrCrossed) o s = absurd s
   orderly_closing last (Err NoReference) o s = (o, s)
   orderly_closing last (Err Halted) o s = absurd s
 
-  touch_by : (last : ℕ) (t : Bool) → touching (best_on Buy b) (best_on Sell b) ≡ t → Closing false b last (cond t (Err LockedOrCrossed) (snapped_by b (reference b last) lo))
+  touch_by : (last : ℕ) (t : Bool) → touching (best_on Buy b) (best_on Sell b) ≡ t → IsOutcome false b last (cond t (Err LockedOrCrossed) (snapped_by b (reference b last) lo))
   touch_by last true e = (refl, e)
   touch_by last false e = orderly_closing last (snapped_by b (reference b last) lo) (record { trading = refl; apart = e }) (count_by (reference b last) (eqb (count_at b lo) 0) refl)
 
-  pub decided_right : (last : ℕ) → Closing false b last (decided b last lo)
+  pub decided_right : (last : ℕ) → IsOutcome false b last (decided b last lo)
   decided_right last = touch_by last (touching (best_on Buy b) (best_on Sell b)) refl

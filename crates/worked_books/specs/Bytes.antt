@@ -2,11 +2,11 @@
 use Rattle.std.specs.Prelude.{◌≡◌, ℕ, ◌+◌, ◌*◌, List, [], ◌∷◌, ◌++◌, Some, None, Option}
 use Rattle.std.specs.List.{AllByRecursion}
 use Rattle.image.specs.Images.{image_book}
-use Rattle.image.specs.Words.{word, le}
+use Rattle.image.specs.Words.{word, little_endian}
 use Rattle.pricing.specs.declared.level.Level.{Level}
 use Rattle.worked_books.specs.declared.books.Worked.{Worked}
 use Rattle.worked_books.specs.declared.bytes.Priced.{Priced}
-use Rattle.worked_books.specs.Table.{book_of, books}
+use Rattle.worked_books.specs.Table.{worked_book, books}
 
 -- the bytes of each list, one after another
 abbrev pub laid : (Option Level → List ℕ) → List (Option Level) → List ℕ
@@ -14,16 +14,16 @@ laid f [] = []
 laid f (x ∷ xs) = f x ++ laid f xs
 
 abbrev pub size_in : Option Level → List ℕ
-size_in None = le 4 0
-size_in (Some l) = le 4 1
+size_in None = little_endian 4 0
+size_in (Some l) = little_endian 4 1
 
 abbrev pub price_in : Option Level → List ℕ
 price_in None = []
-price_in (Some l) = le 4 l.price
+price_in (Some l) = little_endian 4 l.price
 
 abbrev pub shares_in : Option Level → List ℕ
 shares_in None = []
-shares_in (Some l) = le 4 l.shares
+shares_in (Some l) = little_endian 4 l.shares
 
 abbrev pub lists_of : Worked → List (Option Level)
 lists_of w = w.buy ∷ w.sell ∷ w.bid ∷ w.offer ∷ []
@@ -34,7 +34,7 @@ image_of w = laid size_in (lists_of w) ++ (laid price_in (lists_of w) ++ laid sh
 
 -- the image of each worked book means it
 abbrev pub BooksImaged : Type 0
-BooksImaged = AllByRecursion (λ e. image_book (image_of e.book) ≡ book_of e.book) books
+BooksImaged = AllByRecursion (λ e. image_book (image_of e.book) ≡ worked_book e.book) books
 
 -- price and cause in four bytes each, the count in eight
 abbrev pub answer_in : List ℕ → Priced

@@ -5,7 +5,7 @@ use Rattle.market.specs.declared.quote.Quote.{Quote}
 use Rattle.pricing.specs.declared.level.Level.{Level}
 use Rattle.pricing.specs.declared.cause.Cause.TheVariants.{NothingToTrade, LockedOrCrossed, NoReference}
 use Rattle.pricing.specs.Books.{Book}
-use Rattle.pricing.specs.Closing.{Outcome, Closing}
+use Rattle.pricing.specs.Outcomes.{Outcome, IsOutcome}
 use Rattle.orders.specs.declared.row.OrderRow.{OrderRow}
 use Rattle.orders.specs.Rows.{entered_row}
 use Rattle.routing.specs.declared.ticket.Ticket.{Ticket}
@@ -25,8 +25,8 @@ quotes None = []
 quotes (Some l) = record { price = l.price; shares = l.shares; venue = 1 } ∷ []
 
 -- the book of a row
-abbrev pub book_of : Worked → Book
-book_of w = record { buys = orders w.buy; sells = orders w.sell; bids = quotes w.bid; offers = quotes w.offer }
+abbrev pub worked_book : Worked → Book
+worked_book w = record { buys = orders w.buy; sells = orders w.sell; bids = quotes w.bid; offers = quotes w.offer }
 
 -- the rows of the orders of a side, which count as the side does: a buy is order 1, a sell order 2
 abbrev rows : ℕ → List Level → List OrderRow
@@ -78,16 +78,16 @@ worked = map (λ e. e.book) books
 
 -- a close on each book has the outcome of its row
 abbrev pub BooksClose : Type 0
-BooksClose = AllByRecursion (λ e. Closing false (book_of e.book) e.book.last_sale e.outcome) books
+BooksClose = AllByRecursion (λ e. IsOutcome false (worked_book e.book) e.book.last_sale e.outcome) books
 
 -- a close on each book has the tickets of its row
 abbrev pub BooksRoute : Type 0
-BooksRoute = AllByRecursion (λ e. routed (book_of e.book) e.outcome ≡ e.sent) books
+BooksRoute = AllByRecursion (λ e. routed (worked_book e.book) e.outcome ≡ e.sent) books
 
 -- the ticket of a book, where it has one
-abbrev listed : Option Ticket → List Ticket
-listed None = []
-listed (Some t) = t ∷ []
+abbrev ticket_listed : Option Ticket → List Ticket
+ticket_listed None = []
+ticket_listed (Some t) = t ∷ []
 
 abbrev pub SentAt : ℕ → Option Ticket → Type 0
-SentAt place t = listed t ≡ slice_index_or (map (λ e. e.sent) books) place []
+SentAt place t = ticket_listed t ≡ slice_index_or (map (λ e. e.sent) books) place []

@@ -1,18 +1,24 @@
-// The worked books: at most one order a side and one quote a side, and a last sale.
+//! The worked books: at most one order a side and one quote a side, and a last sale.
 ghost use Rattle.std.specs.Prelude.{◌≡◌, false, length, Some};
 ghost use Rattle.std.specs.List.{slice_get};
 ghost use Rattle.worked_books.specs.Bytes.{BooksImaged};
 ghost use Rattle.worked_books.specs.Table.{books, worked, BooksClose, BooksRoute, SentAt};
 
-use pricing::level::Level;
-use routing::ticket::Ticket;
+use pricing::Level;
+use routing::Ticket;
 
-#[derive(Clone, Copy, Debug, PartialEq, Eq)]
+/// A worked book: what each side has, and the last sale.
+#[derive(Clone, Copy)]
 pub struct Worked {
+    /// The order to buy, order 1: its price in points, and its shares.
     pub buy: Option<Level>,
+    /// The order to sell, order 2.
     pub sell: Option<Level>,
+    /// The bid of venue 1.
     pub bid: Option<Level>,
+    /// The offer of venue 1.
     pub offer: Option<Level>,
+    /// The last sale before the close, in points; 0 for none.
     pub last_sale: u32,
 }
 
@@ -41,7 +47,7 @@ fn book(
     }
 }
 
-// The worked books: buy, sell, bid, offer, last sale.
+/// The worked books: buy, sell, bid, offer, last sale.
 pub fn books() -> [Worked; 11]
     ensures { result ≡ worked }
 {
@@ -78,7 +84,7 @@ pub fn books() -> [Worked; 11]
     ]
 }
 
-// The worked book at a place, counted from 0; none past the end.
+/// The worked book at a place, counted from 0; none past the end.
 pub fn book_at(place: usize) -> Option<Worked>
     ensures { result ≡ slice_get worked place }
 {
@@ -98,7 +104,7 @@ fn bought(shares: u32, price: u32) -> Option<Ticket>
     })
 }
 
-// The ticket of the worked book at a place, where it has one: two of the books do.
+/// The ticket of the worked book at a place, where it has one: two of the books do.
 pub fn ticket_at(place: usize) -> Option<Ticket>
     ensures { SentAt place result }
 {
@@ -109,7 +115,7 @@ pub fn ticket_at(place: usize) -> Option<Ticket>
     }
 }
 
-// How many books the table has; each has the outcome and the tickets that the table gives it, and its image means it.
+/// How many books the table has; each has the outcome and the tickets that the table gives it, and its image means it.
 pub fn worked_books_close() -> usize
     ensures books { result ≡ length books }
     ensures close { BooksClose }

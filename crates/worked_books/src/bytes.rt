@@ -1,20 +1,20 @@
-// The bytes of a worked book, and of an answer.
+//! The bytes of a worked book, and of an answer.
 ghost use Rattle.std.specs.Prelude.{◌≡◌, ◌+◌, ◌++◌, ◌≤◌, take, drop, is_ok, IfOk, if◌then◌else◌};
-ghost use Rattle.image.specs.Words.{le};
+ghost use Rattle.image.specs.Words.{little_endian};
 ghost use Rattle.worked_books.specs.Bytes.{image_of, answer_in};
 
 use crate::books::Worked;
-use pricing::level::Level;
+use pricing::Level;
 use std::alloc::{AllocError, Global};
 
 // One word more, little-endian.
 fn push_word(bytes: &mut Vec<u8>, word: u32) -> Result<(), AllocError>
-    ensures { bytes.new.items ≡ (if is_ok result then bytes.old.items ++ le 4 word else bytes.old.items) }
+    ensures { bytes.new.items ≡ (if is_ok result then bytes.old.items ++ little_endian 4 word else bytes.old.items) }
 {
     bytes.extend_from_slice(&word.to_le_bytes())
 }
 
-// The image of a worked book: four sizes, then the prices, then the shares.
+/// The image of a worked book: four sizes, then the prices, then the shares.
 pub fn image_of(heap: Global, worked: Worked) -> Result<Vec<u8>, AllocError>
     ensures { IfOk result (λ v. v.items ≡ image_of worked) }
 {
@@ -37,11 +37,14 @@ pub fn image_of(heap: Global, worked: Worked) -> Result<Vec<u8>, AllocError>
     Ok(bytes)
 }
 
-// An answer as the exported function writes it for C: the cause 0 says that there is a price.
-#[derive(Clone, Copy, Debug, PartialEq, Eq)]
+/// An answer as the exported function writes it for C: the cause 0 says that there is a price.
+#[derive(Clone, Copy)]
 pub struct Priced {
+    /// The price, in points; 0 where there is none.
     pub price: u32,
+    /// The number of the cause why there is no price, 0 where there is one.
     pub cause: u32,
+    /// How many shares find both a buyer and a seller at the price.
     pub count: u64,
 }
 

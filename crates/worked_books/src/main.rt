@@ -1,15 +1,16 @@
+//! Prices the worked books through the exported function, and prints what it got.
+
 #![tactic(auto)]
 
-// Prices the worked books through the exported function, and prints what it got.
 mod books;
 mod bytes;
 
-use books::{Worked, books, ticket_at, worked_books_close};
+use books::{Worked, book_at, ticket_at, worked_books_close};
 use bytes::{Priced, image_of};
-use image::export::snap_price_image;
-use pricing::level::Level;
-use report::numbers::Grouped;
-use routing::ticket::Ticket;
+use image::snap_price_image;
+use pricing::Level;
+use report::Grouped;
+use routing::Ticket;
 
 // One entry of a book as it is written: shares at a price.
 fn entry_words(rt: &HostRuntime, entry: Option<Level>) -> anyhow::Result<String> {
@@ -42,7 +43,9 @@ fn ticket_words(rt: &HostRuntime, ticket: Option<Ticket>) -> anyhow::Result<Stri
     Ok(format!(in rt.alloc(); "  ticket {shares}@{price}")?)
 }
 
-fn print_book(rt: &HostRuntime, number: usize, worked: Worked) -> anyhow::Result<()> {
+// The book at a place, counted from 0, in a line that counts from 1.
+fn print_book(rt: &HostRuntime, place: usize, worked: Worked) -> anyhow::Result<()> {
+    let number = place.saturating_add(1);
     let image = image_of(rt.alloc(), worked)?;
     let mut out = [0; 16];
     let refusal = snap_price_image(image.as_slice(), worked.last_sale, &mut out);
@@ -56,7 +59,7 @@ fn print_book(rt: &HostRuntime, number: usize, worked: Worked) -> anyhow::Result
     } else {
         format!(in rt.alloc(); "refused with {refusal}")?
     };
-    let ticket = ticket_words(rt, ticket_at(number.saturating_sub(1)))?;
+    let ticket = ticket_words(rt, ticket_at(place))?;
     println!(rt;
         "{number:>2}  {buy:<12} {sell:<12} {bid:<12} {offer:<12} {last:>8}  {outcome}{ticket}"
     )?;
@@ -69,40 +72,10 @@ fn main(rt: HostRuntime) -> anyhow::Result<()> {
         "{proved} worked books, whose outcomes and tickets are proved of the rules, priced by the exported function"
     )?;
     println!(rt; "No  buy          sell         bid          offer        last sale  outcome")?;
-    for (number, worked) in (1..).zip(&books()) {
-        print_book(&rt, number, *worked)?;
+    for place in 0..proved {
+        if let Some(worked) = book_at(place) {
+            print_book(&rt, place, worked)?;
+        }
     }
     Ok(())
-}
-
-#[cfg(test)]
-mod tests {
-    use super::*;
-    use books::book_at;
-    use std::test::Fail;
-
-    // Book nine: the buy of 300 finds 100 shares here and 150 outside.
-    #[test]
-    fn nine(rt: HostRuntime) -> Result<(), Fail> {
-        let worked = book_at(8).ok_or("no book nine")?;
-        let image = image_of(rt.alloc(), worked)?;
-        let mut out = [0; 16];
-        assert_eq!(rt;
-            snap_price_image(image.as_slice(), worked.last_sale, &mut out),
-            0
-        );
-        let priced = Priced::from(&out);
-        assert_eq!(rt; priced.price, 200_400);
-        assert_eq!(rt; priced.cause, 0);
-        assert_eq!(rt; priced.count, 250);
-        Ok(())
-    }
-
-    // The first refusal wins, and the output stays as it stood.
-    #[test]
-    fn short_output(rt: HostRuntime) {
-        let mut out = [7; 15];
-        assert_eq!(rt; snap_price_image(b"no image", 0, &mut out), 24);
-        assert!(rt; out == [7; 15]);
-    }
 }

@@ -1,4 +1,5 @@
-use Rattle.engine.specs.States.{held}
+use Rattle.engine.specs.Asked.{asked}
+use Rattle.engine.specs.States.{table_rows}
 use Rattle.engine.specs.Effects.{left}
 use Rattle.auction.proofs.Lawful.{call_lawful}
 use Rattle.auction.proofs.runs.call.Goals as goal
@@ -7,7 +8,7 @@ pub returns : goal.returns
 returns g c =
     let e = c.args.engine.now in
     let m = g.S.QuoteSource.meaning c.args.source.now in
-    let h = held c.args.tables.now in
+    let h = table_rows c.args.tables.now in
     let l = left c.call.new.self c.call.new.tables c.call.result in
     record {
       called = c.call.ensures.called;
@@ -15,7 +16,7 @@ returns g c =
       unread = c.call.ensures.unread;
       clock = c.call.ensures.clock;
       numbers = c.call.ensures.numbers;
-      lawful = λ y history. call_lawful e h y m c.args.call l history c.call.ensures.called;
+      lawful = λ y p history. call_lawful e h y p m (asked c.args.call.now) l history c.call.ensures.called;
       sizes = c.call.ensures.sizes;
       names = c.call.ensures.names;
     }

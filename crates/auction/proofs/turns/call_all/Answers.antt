@@ -1,17 +1,18 @@
 use Rattle.std.proofs.Common.{◌<◌, ◌∙◌, length, get_or, take, Some, sym, refl, subst, arith}
 use Rattle.std.proofs.lemmas.List.{take_all, take_more_set}
 use Rattle.std.proofs.Math.Seq.{map-set_same}
-use Rattle.engine.specs.States.{held}
+use Rattle.engine.specs.Asked.{asked}
+use Rattle.engine.specs.States.{table_rows}
 use Rattle.engine.specs.Effects.{Left, left}
-use Rattle.auction.specs.declared.turns.Turn.{Turn}
-use Rattle.auction.specs.Played.{Alone, no_turn, one_more, CalledRun, Played}
+use Rattle.auction.specs.declared.turns.PlayedCall.{PlayedCall}
+use Rattle.auction.specs.Played.{Alone, no_turn, one_more, CalledRun, IsPlayed}
 use Rattle.auction.proofs.Playing.{none_played, more_played}
 use Rattle.auction.proofs.turns.call_all.Goals as goal
 
 pub loop-turn-init : goal.loop-turn-init
 loop-turn-init g c =
     record {
-      run = λ y history. none_played g.S.QuoteSource.meaning c.args.engine.now (held c.args.tables.now) y history;
+      run = λ y p history. none_played g.S.QuoteSource.meaning c.args.engine.now (table_rows c.args.tables.now) y p history;
       called = no_turn;
       calls = refl;
       sources = refl;
@@ -25,18 +26,18 @@ loop-turn-preserved g c =
     let turns = c.loop-turn.turns in
     let i = c.loop-turn.turn-index in
     let within : i < length turns = omega arith in
-    let item : Turn g.row.S.Denot = get_or turns i c.turn-item.result in
-    let turn : Turn g.row.S.Denot = record { call = item.call; source = item.source; answer = Some c.call-answer.result } in
+    let item : PlayedCall g.row.S.Denot = get_or turns i c.turn-item.result in
+    let turn : PlayedCall g.row.S.Denot = record { call = item.call; source = item.source; answer = Some c.call-answer.result } in
     let left : Left = left c.call-answer.new.engine c.call-answer.new.tables c.call-answer.result in
     let before = c.loop-turn.invariant in
     let after = c.call-answer.ensures in
-    let alone : Alone c.loop-turn.engine (held c.loop-turn.tables) (meaning turn.source) turn.call left =
+    let alone : Alone c.loop-turn.engine (table_rows c.loop-turn.tables) (meaning turn.source) (asked turn.call) left =
     record { called = after.called; refused = after.refused; unread = after.unread; clock = after.clock; numbers = after.numbers } in
     record {
-      run = λ y history. subst (λ ts. Played meaning c.args.engine.now (held c.args.tables.now) y ts left.engine left.held) (sym (take_more_set turns i turn within))
-          (more_played meaning c.args.engine.now (held c.args.tables.now) y (take i turns) c.loop-turn.engine (held c.loop-turn.tables) (before.run y history) turn left
-          (λ y' history'. record { alone = alone; lawful = after.lawful y' history' }) refl);
-      called = subst (λ ts. CalledRun meaning c.args.engine.now (held c.args.tables.now) ts left.engine left.held) (sym (take_more_set turns i turn within))
+      run = λ y p history. subst (λ ts. IsPlayed meaning c.args.engine.now (table_rows c.args.tables.now) y p ts left.engine left.held) (sym (take_more_set turns i turn within))
+          (more_played meaning c.args.engine.now (table_rows c.args.tables.now) y p (take i turns) c.loop-turn.engine (table_rows c.loop-turn.tables) (before.run y p history) turn left
+          (λ y' p' history'. record { alone = alone; lawful = after.lawful y' p' history' }) refl);
+      called = subst (λ ts. CalledRun meaning c.args.engine.now (table_rows c.args.tables.now) ts left.engine left.held) (sym (take_more_set turns i turn within))
           (one_more turn left before.called alone refl);
       calls = map-set_same (λ t. t.call) turns i turn c.turn-item.result refl ∙ before.calls;
       sources = map-set_same (λ t. t.source) turns i turn c.turn-item.result refl ∙ before.sources;
@@ -57,11 +58,11 @@ loop-turn-preserved g c =
     }
 
 pub returns-clause-run : goal.returns-clause-run
-returns-clause-run g c y history =
+returns-clause-run g c y p history =
     let all = take_all c.loop-turn.turn-index c.loop-turn.turns (omega arith) in
-    subst (λ ts. Played g.S.QuoteSource.meaning c.args.engine.now (held c.args.tables.now) y ts c.loop-turn.engine (held c.loop-turn.tables)) all (c.loop-turn.invariant.run y history)
+    subst (λ ts. IsPlayed g.S.QuoteSource.meaning c.args.engine.now (table_rows c.args.tables.now) y p ts c.loop-turn.engine (table_rows c.loop-turn.tables)) all (c.loop-turn.invariant.run y p history)
 
 pub returns-clause-called : goal.returns-clause-called
 returns-clause-called g c =
     let all = take_all c.loop-turn.turn-index c.loop-turn.turns (omega arith) in
-    subst (λ ts. CalledRun g.S.QuoteSource.meaning c.args.engine.now (held c.args.tables.now) ts c.loop-turn.engine (held c.loop-turn.tables)) all c.loop-turn.invariant.called
+    subst (λ ts. CalledRun g.S.QuoteSource.meaning c.args.engine.now (table_rows c.args.tables.now) ts c.loop-turn.engine (table_rows c.loop-turn.tables)) all c.loop-turn.invariant.called

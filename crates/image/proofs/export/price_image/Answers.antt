@@ -1,12 +1,12 @@
 use Rattle.std.proofs.Common.{Ok, sym}
-use Rattle.image.specs.Held.{book_of}
+use Rattle.image.specs.Readers.{reader_book}
 use Rattle.image.proofs.Answering.{priced, outcome_says, priced_numbers}
 use Rattle.image.proofs.export.price_image.Goals as goal
 
 pub returns-clause-priced : goal.returns-clause-priced
 returns-clause-priced c =
     let told = c.in_ok-book.ensures.book in
-    priced c.args.image.now c.args.last_sale (book_of c.in_ok-book.book) c.close_price.result told.0 told.1
+    priced c.args.image.now c.args.last_sale (reader_book c.in_ok-book.book) c.close_price.result told.0 told.1
     (sym c.if-not-orders_fit.ensures) (sym c.if-not-quotes_fit.ensures) c.if-last_sale-gt-HIGHEST_PRICE.false
     c.close_price.ensures.outcome c.close_price.ensures.best
 

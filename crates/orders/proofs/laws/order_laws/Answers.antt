@@ -1,6 +1,6 @@
 use Rattle.std.proofs.Common.{refl}
 use Rattle.orders.specs.Rows.{with_here, with_out}
-use Rattle.orders.proofs.Conserved.{class_numbered_lem, entered_whole, stays_whole, stays_moved, in_order, rests_fall, counts_rise}
+use Rattle.orders.proofs.Conserved.{class_numbered_lem, entered_whole, stays_whole, stays_moved, in_order, gains}
 use Rattle.orders.proofs.Ranks.{orders_formed, orders_rank}
 use Rattle.orders.proofs.laws.order_laws.Goals as goal
 
@@ -13,12 +13,6 @@ returns c = record {
   whole = stays_whole;
   moved = stays_moved;
   order = in_order;
-  here = λ k ws. (
-    rests_fall with_here (λ w. w.here) (λ n w. refl) (λ n w. refl) k ws,
-    counts_rise with_here (λ w. w.here) (λ n w. refl) (λ n w. refl) k ws,
-  );
-  out = λ k ws. (
-    rests_fall with_out (λ w. w.out) (λ n w. refl) (λ n w. refl) k ws,
-    counts_rise with_out (λ w. w.out) (λ n w. refl) (λ n w. refl) k ws,
-  );
+  here = gains with_here (λ w. w.here) (λ n w. refl) (λ n w. refl);
+  out = gains with_out (λ w. w.out) (λ n w. refl) (λ n w. refl);
 }

@@ -1,5 +1,6 @@
 use Rattle.std.proofs.Common.{ℕ, ◌-◌, ◌<◌, ◌≤◌}
 use Rattle.market.specs.Prices.{Permitted}
+use Rattle.pricing.specs.Limits.{permitted_prices}
 use Rattle.pricing.specs.Books.{Sound, wanted_above, supply_at}
 use Rattle.pricing.specs.Ranges.{price_at}
 use Rattle.pricing.proofs.range.lowest.Given as goal
@@ -8,7 +9,7 @@ use Rattle.pricing.proofs.range.lowest.Given as goal
 abbrev pub invariant-loop-low : goal.invariant-loop-low
 invariant-loop-low g l =
     let b = g.B.BookView.book l.view in
-    (l.low < l.high) × (l.high ≤ 20009900)
+    (l.low < l.high) × (l.high ≤ permitted_prices)
     × (Sound b → wanted_above b (price_at l.high) ≤ supply_at b (price_at l.high))
     × (Sound b → (q : ℕ) → Permitted q → wanted_above b q ≤ supply_at b q → price_at l.low < q)
 

@@ -3,7 +3,7 @@ use Rattle.routing.proofs.Filling.{ties_fill, no_other_fills, ties_ranked}
 use Rattle.routing.proofs.Count.{ties_few, tickets_fit}
 use Rattle.routing.proofs.Named.{order_ticketed, quote_ticketed}
 use Rattle.routing.proofs.Filled.{none_empty, tickets_some}
-use Rattle.routing.proofs.Closing.{close_ticketed}
+use Rattle.routing.proofs.CloseTickets.{close_ticketed}
 use Rattle.routing.proofs.Owing.{one_side_owes, owed_within, quoted_lem, counted_lem, beyond_lem}
 use Rattle.routing.proofs.Totals.{tickets_total}
 use Rattle.routing.proofs.Each.{tickets_fill}

@@ -3,7 +3,7 @@ use Rattle.std.specs.List.{fold, list_all}
 use Rattle.std.proofs.lemmas.Iterator.Consumers.{YieldsList-from_first, fold_from_yields_List}
 use Rattle.pricing.specs.declared.level.Level.{Level}
 use Rattle.image.specs.Entries.{level_fits}
-use Rattle.image.specs.Held.{levels_of, levels_left}
+use Rattle.image.specs.Readers.{levels_of, levels_left}
 use Rattle.image.proofs.entries.Entries.fit.Goals as goal
 
 and_true : (b : Bool) → b ≡ (b && true)

@@ -2,16 +2,16 @@ use Rattle.std.proofs.Common.{rules, ◌≡◌, ◌∙◌, min, sym, ap}
 use Rattle.std.proofs.lemmas.Iterator.{YieldsList-from_map}
 use Rattle.std.proofs.lemmas.Iterator.Consumers.{YieldsList-from_first, fold_from_yields_List}
 use Rattle.market.specs.Limits.{highest_price}
-use Rattle.pricing.specs.Ranges.{standing, next_above}
-use Rattle.pricing.proofs.Executable.{least_of}
-use Rattle.image.specs.Held.{levels_of, levels_left}
+use Rattle.pricing.specs.Ranges.{standing_above, next_above}
+use Rattle.pricing.proofs.Shares.{least_of}
+use Rattle.image.specs.Readers.{levels_of, levels_left}
 use Rattle.image.proofs.Meanings.{levels_in_lem}
 use Rattle.image.proofs.entries.Entries.next_above.Goals as goal
 
 is : (c : goal.After-fold) → c.fold.result ≡ next_above c.args.price (levels_of c.args.self.now)
 is c =
     fold_from_yields_List _ (λ least p. min least p) highest_price c.fold.result c.fold.ensures.ran
-    (YieldsList-from_map _ (standing c.args.price) (YieldsList-from_first (λ x. x) levels_left (levels_of c.args.self.now) (cc)) c.map.ensures.closure (λ x r q k. search rules))
+    (YieldsList-from_map _ (standing_above c.args.price) (YieldsList-from_first (λ x. x) levels_left (levels_of c.args.self.now) (cc)) c.map.ensures.closure (λ x r q k. search rules))
     (λ a x b q k. search rules)
     ∙ least_of c.args.price (levels_of c.args.self.now)
 

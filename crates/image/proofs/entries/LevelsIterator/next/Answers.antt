@@ -1,5 +1,5 @@
 use Rattle.std.proofs.Common.{sym, ◌∙◌, arith}
-use Rattle.image.specs.Held.{levels_of}
+use Rattle.image.specs.Readers.{levels_of}
 use Rattle.image.proofs.Lists.{left_more, left_none, entry_within}
 use Rattle.image.proofs.entries.LevelsIterator.next.Goals as goal
 

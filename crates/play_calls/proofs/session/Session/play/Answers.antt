@@ -1,11 +1,15 @@
 use Rattle.std.proofs.Math.Logic.{∥∥₁_map}
-use Rattle.desk.specs.Desks.{market_of}
-use Rattle.play_calls.specs.Turns.{tally_after}
+use Rattle.desk.specs.Desks.{desk_market}
+use Rattle.play_calls.specs.Instructions.{tally_after, posts_after}
 use Rattle.play_calls.proofs.session.Session.play.Goals as goal
 
--- the tally goes on with the line
+-- the tally, and what is passed over beside it, go on with the line
 pub invariant_of-self : goal.invariant_of-self
 invariant_of-self c =
     record {
-      in_run = ∥∥₁_map c.args.self.now.in_run (λ p. (tally_after p.0 (market_of c.args.self.now.desk) c.args.turn c.play.result, c.play.ensures.goes_on p.0 p.1));
+      in_run = ∥∥₁_map c.args.self.now.in_run (λ run. (
+        tally_after run.0 (desk_market c.args.self.now.desk) c.args.instruction c.play.result,
+        posts_after run.1 (desk_market c.args.self.now.desk) c.args.instruction c.play.result,
+        c.play.ensures.goes_on run.0 run.1 run.2,
+      ));
     }
