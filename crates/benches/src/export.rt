@@ -7,7 +7,7 @@ ghost use Rattle.routing.specs.Tickets.{Ticketed, TicketedIn};
 use crate::row::Row;
 use market::{HigherFirst, Quote};
 use orders::OrderRow;
-use ranking::seat;
+use ranking::try_seat;
 use routing::{Ticket, write_tickets};
 
 /// Puts one more entry among the first `used` rows, if a row is free, and says how many entries there are then.
@@ -16,8 +16,7 @@ pub extern "C" fn insert_row(rows: &mut [Row], used: usize, row: &Row) -> usize
     ensures rows { rows.new ≡ (if nat_lt used (length rows.old) then placed row_ahead row.now (take used rows.old) ++ drop (used + 1) rows.old else rows.old) }
     ensures count { result ≡ min (used + 1) (length rows.old) }
 {
-    if used < rows.len() {
-        seat::<Row, HigherFirst>(rows, used, *row);
+    if try_seat::<Row, HigherFirst>(rows, used, *row).is_ok() {
         used + 1
     } else {
         rows.len()

@@ -1,9 +1,8 @@
--- The list of a table's slots: how long it is, what a write to a slot does, and that it goes by venue.
-use Rattle.std.proofs.Common.{◌≡◌, ℕ, zero, suc, ◌+◌, ◌<◌, ◌≤◌, List, [], ◌∷◌, length, set, filter, count_by, is_some, Some, None, Option, sym, refl, ap, ◌∙◌, arith}
-use Rattle.std.specs.List.{AllByRecursion, filter_map, zip, range_with_len}
-use Rattle.std.specs.Option.{option_map}
+-- The list of a table's slots: a loop's steps, what a write to a slot does, and that it goes by venue.
+use Rattle.std.proofs.Common.{◌≡◌, ℕ, zero, suc, ◌+◌, ◌-◌, ◌<◌, ◌≤◌, List, [], ◌∷◌, length, get_or, drop, set, cond, is_some, Some, None, Option, sym, refl, ap, ◌∙◌, arith}
+use Rattle.std.specs.List.{slice_get, AllByRecursion}
 use Rattle.std.proofs.lemmas.Bool.{le-ltb, lt-ltb, eq-eqb, ne_eqb}
-use Rattle.std.proofs.lemmas.List.Sums.{length-filter}
+use Rattle.std.proofs.lemmas.List.{at_drop_more, at_drop_all}
 use Rattle.std.proofs.ByRecursion.{All-weaker}
 use Rattle.market.specs.Limits.{venues}
 use Rattle.market.specs.Listings.{quotes_listed, quote_of, Rising, OfVenue, WellListed}
@@ -12,22 +11,26 @@ use Rattle.market.specs.declared.terms.QuoteTerms.{QuoteTerms}
 use Rattle.market.specs.declared.venues.VenueTable.{VenueTable}
 use Rattle.market.specs.declared.quote.Quote.{Quote}
 
--- as many quotes as slots with terms
-slots_listed : (v : ℕ) (slots : List (Option QuoteTerms)) → length (quotes_listed v slots) ≡ length (filter is_some slots)
-slots_listed v [] = refl
-slots_listed v (None ∷ slots) = slots_listed (v + 1) slots
-slots_listed v (Some m ∷ slots) = ap suc (slots_listed (v + 1) slots)
+-- a turn of a loop over the slots, and its end
+module _ (slots : List (Option QuoteTerms)) (i v : ℕ) (d : Option QuoteTerms) where
+  pub listed_none : i < length slots → get_or slots i d ≡ None → quotes_listed v (drop i slots) ≡ quotes_listed (v + 1) (drop (i + 1) slots)
+  listed_none h e = at_drop_more (quotes_listed v) slots i d h ∙ ap (λ y. quotes_listed v (y ∷ drop (i + 1) slots)) e
 
-pub length_listed : (v : ℕ) (slots : List (Option QuoteTerms)) → length (quotes_listed v slots) ≡ count_by is_some slots
-length_listed v slots = slots_listed v slots ∙ length-filter is_some slots
+  pub listed_some : (m : QuoteTerms) → i < length slots → get_or slots i d ≡ Some m → quotes_listed v (drop i slots) ≡ quote_of m v ∷ quotes_listed (v + 1) (drop (i + 1) slots)
+  listed_some m h e = at_drop_more (quotes_listed v) slots i d h ∙ ap (λ y. quotes_listed v (y ∷ drop (i + 1) slots)) e
 
--- the quotes, each by its slot and its venue
-pub listed_zip : (v n : ℕ) (slots : List (Option QuoteTerms)) → length slots ≡ n → filter_map (λ p. option_map (λ m. quote_of m p.0) p.1) (zip (range_with_len v n) slots) ≡ quotes_listed v slots
-listed_zip v zero [] e = refl
-listed_zip v (suc n) [] e = absurd (omega arith)
-listed_zip v zero (slot ∷ slots) e = absurd (omega arith)
-listed_zip v (suc n) (None ∷ slots) e = listed_zip (v + 1) n slots (omega arith)
-listed_zip v (suc n) (Some m ∷ slots) e = ap (λ l. quote_of m v ∷ l) (listed_zip (v + 1) n slots (omega arith))
+  pub listed_all : length slots ≤ i → quotes_listed v (drop i slots) ≡ []
+  listed_all h = at_drop_all (quotes_listed v) slots i h
+
+-- how many a slot adds
+pub listed_turn : (slots : List (Option QuoteTerms)) (i v : ℕ) (slot : Option QuoteTerms) → i < length slots → slot ≡ get_or slots i slot
+    → length (quotes_listed v (drop i slots)) ≡ cond (is_some slot) 1 0 + length (quotes_listed (v + 1) (drop (i + 1) slots))
+listed_turn slots i v None h e = let l = ap length (listed_none slots i v None h (sym e)) in omega (arith, l)
+listed_turn slots i v (Some m) h e = let l = ap length (listed_some slots i v (Some m) m h (sym e)) in omega (arith, l)
+
+pub nth_tail : (x : Quote) (xs : List Quote) (n : ℕ) → 0 < n → slice_get (x ∷ xs) n ≡ slice_get xs (n - 1)
+nth_tail x xs zero h = absurd (omega arith)
+nth_tail x xs (suc n) h = ap (slice_get xs) (omega arith)
 
 -- a quote of an earlier venue goes in front
 quoted_first : (q : Quote) (b : ℕ) (slots : List (Option QuoteTerms)) → q.venue < b → quoted q (quotes_listed b slots) ≡ q ∷ quotes_listed b slots

@@ -6,6 +6,7 @@ ghost use Rattle.market.specs.Fits.{quote_fits, side_fits, quotes_fit};
 use crate::limits::MOST_QUOTES;
 use crate::price::entry_fits;
 use crate::quote::Quote;
+use crate::quotes::Quotes;
 use crate::side::Side;
 use crate::source::QuoteSource;
 
@@ -19,7 +20,14 @@ fn quote_fits(quote: Quote) -> bool
 fn side_fits<S: QuoteSource>(source: &S, side: Side) -> bool
     ensures { result ≡ side_fits (quotes_on side (S.meaning source.now)) }
 {
-    source.count(side) <= MOST_QUOTES && source.quotes(side).all(quote_fits)
+    // Counted once: `quotes` would count again.
+    let count = source.count(side);
+    let mut quotes = Quotes {
+        source,
+        side,
+        places: 0..count,
+    };
+    count <= MOST_QUOTES && quotes.all(quote_fits)
 }
 
 /// Whether both sides of a source fit: no more quotes than a source may list, each with a price and shares that a quote may have

@@ -95,6 +95,14 @@ impl From<OrderRecord> for OrderRow {
 // That the row stays whole is the model's invariant, and is said again by each change: what callers hold of a record in their
 // clauses is its row, which any row can be.
 impl OrderRecord {
+    /// Its row, as it is now.
+    pub fn row(&self) -> OrderRow
+        ensures row { result ≡ self.now }
+        ensures whole { is_whole result ≡ true }
+    {
+        self.row
+    }
+
     /// Cancels the rest, and answers how many shares that is.
     pub fn cancel_rest(&mut self) -> u32
         ensures row { self.new ≡ with_cancelled self.old }

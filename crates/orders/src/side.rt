@@ -51,8 +51,8 @@ fn send_row(row: &mut OrderRow, most: u64, to: Destination) -> u64
     change_row(row, |record| record.send(most, to)).unwrap_or(0)
 }
 
-// How many rows stand before the first with a number. A loop that counts, since every enter looks for its number in both tables:
-// by `position` an enter takes an eighth longer.
+// How many rows stand before the first with a number. A loop that counts, since cancel and report look for their order in both
+// tables: by `position` an enter, which looked in this way then, took an eighth longer.
 fn rows_before(rows: &[OrderRow], number: u32) -> usize
     ensures { result ≡ before number rows.now }
 {

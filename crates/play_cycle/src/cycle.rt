@@ -46,13 +46,14 @@ pub fn quote(rt: &HostRuntime, desk: &mut Desk) -> io::Result<()> {
     print_best(rt, desk, Side::Sell, "offer")
 }
 
-// Makes a call, prints it with its answer, and hands the answer on.
+// Makes a call, prints it with its answer, and hands the answer on. The line is printed once the answer is there, in one write; the
+// desk takes the call, so what is printed of it is a clone.
 fn make(rt: &HostRuntime, desk: &mut Desk, call: Call) -> io::Result<Result<Answer, Refusal>> {
-    let words = CallWords(&call);
-    print!(rt; "  {words}: ")?;
+    let asked = call.clone()?;
     let answer = desk.call(call);
+    let words = CallWords(&asked);
     let outcome = Outcome(answer);
-    println!(rt; "{outcome}")?;
+    println!(rt; "  {words}: {outcome}")?;
     Ok(answer)
 }
 

@@ -1,8 +1,7 @@
 -- The prices below one, as a chain takes them from those of a book.
-use Rattle.std.proofs.Common.{◌≡◌, ◌<◌, ◌≤◌, ℕ, Bool, true, false, List, [], ◌∷◌, Option, Some, None, is_some, MatchBool, MatchOption, inl, inr, sym, subst, ap, ltb, ltb-true, ltb-false, true≢false, Result, Ok, Err, IfOk, Vec}
+use Rattle.std.proofs.Common.{◌≡◌, ◌<◌, ◌≤◌, ℕ, Bool, true, false, List, [], ◌∷◌, Option, Some, None, is_some, MatchBool, MatchOption, inl, inr, sym, subst, ap, ltb, ltb-true, ltb-false, true≢false}
 use Rattle.std.specs.Fn.{CalledAt}
 use Rattle.std.specs.Iterator.{Yields}
-use Rattle.std.proofs.lemmas.Iterator.{IsCollectResult}
 use Rattle.std.specs.Iterator.Adapters.{take_while_steps}
 use Rattle.std.specs.declared.iter.TakeWhile.{TakeWhile}
 use denote.Param.Members.{Mut}
@@ -50,11 +49,3 @@ module _ {F : Type 0} (g : Mut F (Bor ℕ × Unit {0}) Bool) (f : F) (high : ℕ
       let c = came s j x q.0 a q.1 q.2 in
       let more = taken xs j t u c.2 c.3 y n in
       (c.0.0, c.0.1, c.1, subst (λ z. PricesBetween (reader_book s.iter.book) z high xs) c.0.3 (subst (λ b. PricesBetween (reader_book b) j.iter.above high xs) c.0.2 more))
-
-  -- what is collected of them
-  pub listed : {Z E : Type 0} (r : Result (Vec ℕ Z) E) (s : TakeWhile Prices F) → s.p ≡ f → s.done ≡ false → IsCollectResult (take_while_steps StepsUp g) s r
-      → IfOk r (λ prices. PricesBetween (reader_book s.iter.book) s.iter.above high prices.items)
-  listed (Ok prices) s a d c =
-      let n = c.1.2 tt in
-      subst (λ xs. PricesBetween (reader_book s.iter.book) s.iter.above high xs) (sym c.2.0) (taken c.0 s c.1.0 n.0 a d c.1.1 n.1)
-  listed (Err e) s a d c = tt

@@ -1,5 +1,5 @@
 -- The prices at which shares stand in a book, one after another.
-use Rattle.std.specs.Prelude.{◌≡◌, ℕ, ◌<◌, ◌≤◌, ◌⊎◌, Option, List, [], ◌∷◌}
+use Rattle.std.specs.Prelude.{◌≡◌, ℕ, ◌<◌, ◌≤◌, ◌-◌, ◌⊎◌, Option, List, [], ◌∷◌, length, drop}
 use Rattle.std.specs.Option.{MatchOption}
 use Rattle.market.specs.Limits.{highest_price}
 use Rattle.pricing.specs.Books.{Book}
@@ -26,3 +26,8 @@ PricesBetween book low high [] =
 PricesBetween book low high (price ∷ above) =
     (price ≡ next_price book low) × (price < highest_price)
     × (price < high) × PricesBetween book price high above
+
+-- the last of the prices of a book between two, n of them, or all where there are fewer
+abbrev pub LastBetween : ℕ → Book → ℕ → ℕ → List ℕ → Type 0
+LastBetween n book low high last =
+    (prices : List ℕ) × PricesBetween book low high prices × (last ≡ drop (length prices - n) prices)

@@ -1,15 +1,14 @@
 //! The record of one pricing.
-ghost use Rattle.std.specs.Prelude.{IfOk};
 ghost use Rattle.image.specs.Readers.{reader_book};
-ghost use Rattle.price_image.specs.Prices.{PricesBetween};
+ghost use Rattle.price_image.specs.Prices.{LastBetween};
 
 use crate::prices::Prices;
 use crate::request::Request;
+use arrayvec::ArrayVec;
 use image::BookImage;
 use market::{QuoteSource, Side};
 use pricing::{BookView, Cause, reference_price};
 use report::{Column, Dollars, Grouped};
-use std::alloc::{AllocError, Global};
 use std::io;
 
 /// Prints what was asked for: the image with its length in bytes, and the last sale in points.
@@ -73,22 +72,26 @@ fn print_level(rt: &HostRuntime, book: &BookImage<'_>, price: u32, mark: &str) -
 // How many prices of the book are shown on each side of the middle.
 const SHOWN: usize = 4;
 
-// The prices of the book below one, the lowest first.
-fn prices_below(alloc: Global, book: &BookImage<'_>, middle: u32) -> Result<Vec<u32>, AllocError>
-    ensures { IfOk result (λ prices. PricesBetween (reader_book book.now) 0 middle prices.items) }
+// The last prices of the book below one, as many as are shown, the lowest first: a window that slides over them, with no heap.
+fn prices_below(book: &BookImage<'_>, middle: u32) -> ArrayVec<u32, SHOWN>
+    ensures { LastBetween SHOWN (reader_book book.now) 0 middle result.items }
 {
-    Prices::above(*book, 0)
-        .take_while(|price| *price < middle)
-        .collect(alloc)
+    let mut last = ArrayVec::new();
+    for price in Prices::above(*book, 0).take_while(|price| *price < middle) {
+        if last.is_full() {
+            last.remove(0);
+        }
+        last.push(price);
+    }
+    last
 }
 
 // Demand and supply at the prices of the book around a price, the highest last.
 fn print_around(rt: &HostRuntime, book: &BookImage<'_>, middle: u32) -> io::Result<()> {
     println!(rt; "")?;
     println!(rt; "Around the price      demand        supply         count")?;
-    let below = prices_below(rt.alloc(), book, middle)?;
-    for price in below.iter().skip(below.len().saturating_sub(SHOWN)) {
-        print_level(rt, book, *price, "")?;
+    for price in prices_below(book, middle) {
+        print_level(rt, book, price, "")?;
     }
     print_level(rt, book, middle, "  <")?;
     for price in Prices::above(*book, middle).take(SHOWN) {

@@ -13,5 +13,5 @@ pub use full::Full;
 pub use laws::ranking_laws;
 pub use rank::Ranking;
 pub use rows::first_rows;
-pub use seating::seat;
+pub use seating::{seat, try_seat};
 pub use table::RankedTable;

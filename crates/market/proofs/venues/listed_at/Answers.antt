@@ -1,21 +1,28 @@
-use Rattle.std.proofs.Common.{◌+◌, sym, ap, ◌∙◌, refl, arith, rules, tests}
-use Rattle.std.specs.List.{slice_get}
-use Rattle.std.specs.Option.{option_map}
-use Rattle.std.proofs.lemmas.Iterator.{YieldsList-from_range, YieldsList-from_slice, YieldsList-from_zip}
-use Rattle.std.proofs.lemmas.Iterator.Adapters.{option_map_id}
-use Rattle.std.proofs.lemmas.Iterator.Consumers.{YieldsList-at, YieldsList-from_filter_map, nth_from_yields_List}
-use Rattle.market.specs.Limits.{venues}
-use Rattle.market.specs.Listings.{quote_of}
-use Rattle.market.proofs.Slots.{listed_zip}
+use Rattle.std.proofs.Common.{◌+◌, ◌<◌, None, sym, ◌∙◌, arith}
+use Rattle.market.proofs.Slots.{listed_none, listed_some, listed_all, nth_tail}
 use Rattle.market.proofs.venues.listed_at.Goals as goal
+
+pub returns-then-left-eq0 : goal.returns-then-left-eq0
+returns-then-left-eq0 c =
+    let i = c.loop-slot.slot in
+    let e = listed_some c.args.slots.now i (i + 1) _ c.in-Some.terms (omega arith) c.in-Some.is in
+    rw c.quote.ensures (rw (e, c.if-left-eq0.true) at c.loop-slot.invariant)
+
+pub loop-slot-preserved : goal.loop-slot-preserved
+loop-slot-preserved c =
+    let slots = c.args.slots.now in
+    let i = c.loop-slot.slot in
+    elim c.match-terms.branch [
+      | goal.in-Some+else-left-eq0 w ↦
+          let e = listed_some slots i (i + 1) _ w.in-Some.terms (omega arith) w.in-Some.is in
+          let more : 0 < c.loop-slot.left = omega arith in
+          rw w.left-is (sym (nth_tail _ _ c.loop-slot.left more) ∙ (rw e at c.loop-slot.invariant))
+      | goal.in_default w ↦
+          let e = listed_none slots i (i + 1) _ (omega arith) w.in_default.is in
+          rw w.left-is (rw e at c.loop-slot.invariant)
+    ]
 
 pub returns : goal.returns
 returns c =
-    let slots = c.args.slots.now in
-    sym (option_map_id _)
-    ∙ nth_from_yields_List c.nth.result c.nth.new.self c.args.place c.nth.ensures.ran
-    (YieldsList-from_filter_map _ (λ p. option_map (λ m. quote_of m p.0) p.1)
-    (YieldsList-at c.filter_map.ensures.source
-    (YieldsList-from_zip (YieldsList-at c.zip.ensures.first (YieldsList-from_range 1 (venues + 1) venues refl refl)) (YieldsList-at c.zip.ensures.second (YieldsList-from_slice slots cc))))
-    c.filter_map.ensures.closure (λ x r q k. search (rules, tests)))
-    ∙ ap (λ l. slice_get l c.args.place) (listed_zip 1 venues slots (omega arith))
+    let i = c.loop-slot.slot in
+    rw (listed_all c.args.slots.now i (i + 1) None (omega arith)) at c.loop-slot.invariant
